@@ -1,0 +1,73 @@
+-- The laws of the first number that passes a test, and what closes each need of a loop that looks for it.
+use Prim.Native.Nat.{ℕ, zero, suc, _+_, _-_, _≤_, _<_}
+use native.Mathlib.Omega.{arith}
+use native.Mathlib.Decide.{ℕ-discrete}
+use mathlib.Core.Path.{_≡_, refl, ap, _∙_, sym}
+use mathlib.Core.Logic.{_⊎_, inl, inr}
+use mathlib.Core.List.{List, [], _∷_, _++_}
+use mathlib.Core.Bool.{Bool, true, false}
+use borrow.Author.Needs.{needs}
+use Rattle.ground.specs.Choose.{choose}
+use Rattle.ground.specs.Below.{upFrom, firstOr}
+
+upFrom-more : (a n : ℕ) → 0 < n → upFrom a n ≡ a ∷ upFrom (a + 1) (n - 1)
+unfolding upFrom
+upFrom-more a n h = rw (let e : n ≡ suc (n - 1) = omega arith in e) (rw (let e : suc (n - 1) - 1 ≡ n - 1 = omega arith in e) refl)
+
+-- the invariant of such a loop: what is looked for in the whole is what is looked for in the rest
+pub first-hit : (d : ℕ) (p : ℕ → Bool) (x n s : ℕ) (r : Bool) → s ≡ firstOr d p (upFrom x n) → 0 < n → r ≡ p x → r ≡ true → x ≡ s
+unfolding firstOr choose
+first-hit d p x n s r h l e t = rw (h, upFrom-more x n l, ← e, t) refl
+
+pub first-miss : (d : ℕ) (p : ℕ → Bool) (x n s : ℕ) (r : Bool) → s ≡ firstOr d p (upFrom x n) → 0 < n → r ≡ p x → r ≡ false → s ≡ firstOr d p (upFrom (x + 1) (n - 1))
+unfolding firstOr choose
+first-miss d p x n s r h l e t = h ∙ rw (upFrom-more x n l, ← e, t) refl
+
+pub first-none : (d : ℕ) (p : ℕ → Bool) (x n s : ℕ) → s ≡ firstOr d p (upFrom x n) → n ≤ 0 → d ≡ s
+unfolding firstOr upFrom
+first-none d p x n s h l = rw (h, (let e : n ≡ 0 = omega arith in e)) refl
+
+-- looking in one list, then in another
+pub first-append : (d : ℕ) (p : ℕ → Bool) (xs ys : List ℕ) → firstOr d p (xs ++ ys) ≡ firstOr (firstOr d p ys) p xs
+unfolding firstOr
+first-append d p [] ys = refl
+first-append d p (x ∷ xs) ys = rw (first-append d p xs ys) refl
+
+-- what closes each need of a loop that looks for the first
+pub ruleset firsts = (needs, first-hit, first-miss, first-none)
+
+-- no number of the n from a on passes
+pub None : (ℕ → Bool) → ℕ → ℕ → Type 0
+None p a n = (i : ℕ) → a ≤ i → i < a + n → p i ≡ false
+
+-- x is one of the n from a on, passes, and none before it does
+pub record First (p : ℕ → Bool) (a n x : ℕ) : Type 0 where
+  pub from : a ≤ x
+  pub within : x < a + n
+  pub passes : p x ≡ true
+  pub before : (i : ℕ) → a ≤ i → i < x → p i ≡ false
+
+-- none passes, and the default is given; or the first that passes is
+abbrev pub FirstCase : ℕ → (ℕ → Bool) → ℕ → ℕ → ℕ → Type 0
+FirstCase d p a n r = ((None p a n) × (r ≡ d)) ⊎ First p a n r
+
+pub first-case : (d : ℕ) (p : ℕ → Bool) (a n : ℕ) → FirstCase d p a n (firstOr d p (upFrom a n))
+unfolding firstOr upFrom None choose
+first-case d p a zero = inl ((λ i h l. absurd (let z : ⊥ = omega arith in z)), refl)
+first-case d p a (suc n) = go (p a) refl (first-case d p (a + 1) n)
+  where
+    at-start : (b : Bool) → p a ≡ b → (i : ℕ) → i ≡ a → p i ≡ b
+    at-start b e i h = ap p h ∙ e
+
+    go : (b : Bool) → p a ≡ b → FirstCase d p (a + 1) n (firstOr d p (upFrom (a + 1) n)) → FirstCase d p a (suc n) (choose b a (firstOr d p (upFrom (a + 1) n)))
+    go true e c = inr (record { from = omega arith; within = omega arith; passes = e; before = λ i h l. absurd (let z : ⊥ = omega arith in z) })
+    go false e (inl (none, default)) = inl ((λ i h l. past i h l (ℕ-discrete i a)), default)
+      where
+        past : (i : ℕ) → a ≤ i → i < a + suc n → Dec (i ≡ a) → p i ≡ false
+        past i h l (yes q) = at-start false e i q
+        past i h l (no ne) = none i (omega arith) (omega arith)
+    go false e (inr f) = inr (record { from = omega arith; within = omega arith; passes = f .passes; before = λ i h l. past i h l (ℕ-discrete i a) })
+      where
+        past : (i : ℕ) → a ≤ i → i < firstOr d p (upFrom (a + 1) n) → Dec (i ≡ a) → p i ≡ false
+        past i h l (yes q) = at-start false e i q
+        past i h l (no ne) = f .before i (omega arith) l

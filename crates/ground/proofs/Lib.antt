@@ -1,0 +1,6 @@
+pub mod Choices
+pub mod Loops
+pub mod Firsts
+pub mod Fronts
+pub mod Maps
+pub mod Unique

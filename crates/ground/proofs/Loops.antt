@@ -1,0 +1,131 @@
+-- The laws of the tests over numbers below a bound, at the code's `i + 1`, and what closes each need of a loop that folds one.
+use Prim.Native.Nat.{ℕ, zero, suc, _+_, _-_, _≤_, _<_}
+use native.Mathlib.Numerals.{add-one}
+use native.Mathlib.Omega.{arith}
+use native.Mathlib.Decide.{ℕ-discrete}
+use mathlib.Core.Path.{_≡_, refl, ap, _∙_, sym}
+use mathlib.Core.Bool.{Bool, true, false, _&&_, _||_, false≢true}
+use borrow.Author.Needs.{needs}
+use Rattle.ground.specs.Below.{one, all, some, count}
+use Rattle.ground.proofs.Choices.{and-left, and-right, both}
+
+pub all-more : (p : ℕ → Bool) (i : ℕ) → all p (i + 1) ≡ (all p i && p i)
+unfolding all
+all-more p i = rw add-one
+
+pub some-more : (p : ℕ → Bool) (i : ℕ) → some p (i + 1) ≡ (some p i || p i)
+unfolding some
+some-more p i = rw add-one
+
+pub count-more : (p : ℕ → Bool) (i : ℕ) → count p (i + 1) ≡ count p i + one (p i)
+unfolding count
+count-more p i = rw add-one
+
+pub one-le : (b : Bool) → one b ≤ 1
+one-le true = omega arith
+one-le false = omega arith
+
+pub count-le : (p : ℕ → Bool) (i : ℕ) → count p i ≤ i
+unfolding count
+count-le p zero = omega arith
+count-le p (suc i) = omega (arith, count-le p i, one-le (p i))
+
+pub all-step : (p : ℕ → Bool) (i : ℕ) {b r : Bool} → b ≡ all p i → r ≡ p i → (b && r) ≡ all p (i + 1)
+all-step p i hb hr = rw (all-more, ← hb, ← hr)
+
+pub some-step : (p : ℕ → Bool) (i : ℕ) {b r : Bool} → b ≡ some p i → r ≡ p i → (b || r) ≡ some p (i + 1)
+some-step p i hb hr = rw (some-more, ← hb, ← hr)
+
+pub count-step : (p : ℕ → Bool) (i : ℕ) {n r : ℕ} → n ≡ count p i → r ≡ one (p i) → n + r ≡ count p (i + 1)
+count-step p i hn hr = rw (count-more, ← hn, ← hr)
+
+pub all-none : (p : ℕ → Bool) → true ≡ all p 0
+unfolding all
+all-none p = refl
+
+pub some-none : (p : ℕ → Bool) → false ≡ some p 0
+unfolding some
+some-none p = refl
+
+pub count-none : (p : ℕ → Bool) → 0 ≡ count p 0
+unfolding count
+count-none p = refl
+
+-- what an invariant says at i, where the loop has come to its end
+pub at-end {ℓ} : {A : Type ℓ} (f : ℕ → A) {x : A} {i n : ℕ} → x ≡ f i → i ≤ n → n ≤ i → x ≡ f n
+at-end f {x} {i} {n} h a b = h ∙ ap f (let e : i ≡ n = omega arith in e)
+
+pub all-end : (p : ℕ → Bool) (i n : ℕ) {b : Bool} → b ≡ all p i → i ≤ n → n ≤ i → b ≡ all p n
+all-end p i n h a b = at-end (all p) h a b
+
+pub some-end : (p : ℕ → Bool) (i n : ℕ) {b : Bool} → b ≡ some p i → i ≤ n → n ≤ i → b ≡ some p n
+some-end p i n h a b = at-end (some p) h a b
+
+pub count-end : (p : ℕ → Bool) (i n : ℕ) {b : ℕ} → b ≡ count p i → i ≤ n → n ≤ i → b ≡ count p n
+count-end p i n h a b = at-end (count p) h a b
+
+-- what closes each need of a loop that folds one of the tests
+pub ruleset loops = (needs, all-none, some-none, count-none, all-step, some-step, count-step, all-end, some-end, count-end)
+
+-- what a test of all says at each number
+pub all-at : (p : ℕ → Bool) (n i : ℕ) → all p n ≡ true → i < n → p i ≡ true
+unfolding all
+all-at p zero i h l = absurd (let z : ⊥ = omega arith in z)
+all-at p (suc n) i h l = go (λ m. all-at p n i (and-left (all p n) (p n) h) m) (ℕ-discrete i n)
+  where
+    go : (i < n → p i ≡ true) → Dec (i ≡ n) → p i ≡ true
+    go r (yes e) = ap p e ∙ and-right (all p n) (p n) h
+    go r (no ne) = r (omega arith)
+
+-- what holds at each number makes a test of all
+pub all-of : (p : ℕ → Bool) (n : ℕ) → ((i : ℕ) → i < n → p i ≡ true) → all p n ≡ true
+unfolding all
+all-of p zero h = refl
+all-of p (suc n) h = both (all p n) (p n) (all-of p n (λ i l. h i (omega arith))) (h n (omega arith))
+
+-- what holds at one number makes a test of some
+pub some-of : (p : ℕ → Bool) (n i : ℕ) → i < n → p i ≡ true → some p n ≡ true
+unfolding some
+some-of p zero i l h = absurd (let z : ⊥ = omega arith in z)
+some-of p (suc n) i l h = go (λ m. some-of p n i m h) (ℕ-discrete i n)
+  where
+    either : (a b : Bool) → a ≡ true → (a || b) ≡ true
+    either a b e = rw e refl
+
+    other : (a b : Bool) → b ≡ true → (a || b) ≡ true
+    other true b e = refl
+    other false b e = e
+
+    go : (i < n → some p n ≡ true) → Dec (i ≡ n) → (some p n || p n) ≡ true
+    go r (yes e) = other (some p n) (p n) (ap p (sym e) ∙ h)
+    go r (no ne) = either (some p n) (p n) (r (omega arith))
+
+-- a test of some that fails fails at each number
+pub none-of : (p : ℕ → Bool) (n i : ℕ) → some p n ≡ false → i < n → p i ≡ false
+none-of p n i h l = go (p i) refl
+  where
+    go : (b : Bool) → p i ≡ b → p i ≡ false
+    go false e = e
+    go true e = absurd (false≢true (sym h ∙ some-of p n i l e))
+
+-- two tests that agree below n give one count
+pub count-same : (p q : ℕ → Bool) (n : ℕ) → ((i : ℕ) → i < n → p i ≡ q i) → count p n ≡ count q n
+unfolding count
+count-same p q zero h = refl
+count-same p q (suc n) h = rw (count-same p q n (λ i l. h i (omega arith)), h n (omega arith)) refl
+
+-- a count up to a higher bound is at least as large, and larger where the test holds at the lower bound
+pub count-grows : (p : ℕ → Bool) (m n : ℕ) → m ≤ n → count p m ≤ count p n
+unfolding count
+count-grows p m zero h = rw (let e : m ≡ 0 = omega arith in e) (omega arith)
+count-grows p m (suc n) h = go (λ l. count-grows p m n l) (ℕ-discrete m (suc n))
+  where
+    go : (m ≤ n → count p m ≤ count p n) → Dec (m ≡ suc n) → count p m ≤ count p n + one (p n)
+    go r (yes e) = rw e (omega arith)
+    go r (no ne) = omega (arith, r (omega arith))
+
+pub count-past : (p : ℕ → Bool) (m n : ℕ) → m < n → p m ≡ true → count p m < count p n
+count-past p m n h e = omega (arith, count-grows p (m + 1) n (omega arith), counted)
+  where
+    counted : count p (m + 1) ≡ count p m + 1
+    counted = count-more p m ∙ rw e refl

@@ -1,0 +1,80 @@
+// The numbers by which the panel refuses. A refusal is a case; the rule book's number is `number`.
+ghost use mathlib.Core.Path.{_≡_};
+ghost use Rattle.refusal.specs.Refusal.{numberOf};
+
+pub enum Refusal {
+    // 1: under 12 bytes
+    Short,
+    // 2: n above 240
+    OverLong,
+    // 3: bytes not 12 + n
+    LengthMismatch,
+    // 4: frame not good
+    BadChecksum,
+    // 5: destination not 255
+    NotForUs,
+    // 6: no wait, or another source
+    NotAwaited,
+    // 7: a type that this wait does not take, or a type 0 that is no ACK
+    UnexpectedType,
+    // 8: after a list, 0x94 with another payload
+    BadEcho,
+    // 9: request with a method above 3
+    BadMethod,
+    // 10: writer given over 240
+    PayloadTooLong,
+    // 11: output shorter than the frame due
+    NoRoom,
+    // 12: join with type 0 or 165
+    BadType,
+    // 13: MAC outside the range, in a join or in setup
+    BadMac,
+    // 14: join while waiting, or while a forward, return or list is due
+    Busy,
+    // 15: join while held
+    Held,
+    // 16: new MAC, no free position
+    Full,
+    // 17: the chosen address is already listed
+    AddressClash,
+    // 18: turn during a wait
+    AwaitingReply,
+    // 19: turn with no board
+    NobodyListed,
+    // 20: quiet without a wait
+    NotWaiting,
+    // 21: pool not as the rules say
+    BadPool,
+    // 22: lent state or table not fit
+    StateUnfit,
+}
+
+// The rule book's number of a refusal.
+pub fn number(refusal: Refusal) -> u8
+    ensures { λ r. ⌜ r ≡ numberOf refusal ⌝ }
+{
+    match refusal {
+        Refusal::Short => 1,
+        Refusal::OverLong => 2,
+        Refusal::LengthMismatch => 3,
+        Refusal::BadChecksum => 4,
+        Refusal::NotForUs => 5,
+        Refusal::NotAwaited => 6,
+        Refusal::UnexpectedType => 7,
+        Refusal::BadEcho => 8,
+        Refusal::BadMethod => 9,
+        Refusal::PayloadTooLong => 10,
+        Refusal::NoRoom => 11,
+        Refusal::BadType => 12,
+        Refusal::BadMac => 13,
+        Refusal::Busy => 14,
+        Refusal::Held => 15,
+        Refusal::Full => 16,
+        Refusal::AddressClash => 17,
+        Refusal::AwaitingReply => 18,
+        Refusal::NobodyListed => 19,
+        Refusal::NotWaiting => 20,
+        Refusal::BadPool => 21,
+        Refusal::StateUnfit => 22,
+    }
+}
