@@ -1,0 +1,87 @@
+-- The laws of the sums that everyone above cites.
+use Prim.Native.Nat.{ℕ, zero, suc, _+_, _-_, _%_, _≤_, _<_}
+use native.Mathlib.Omega.{arith}
+use native.Mathlib.Numerals.{add-one}
+use mathlib.Core.Path.{_≡_, refl, sym, ap, _∙_}
+use mathlib.Core.Bool.{Bool, true, false, _&&_}
+use mathlib.Core.List.{List, [], _∷_, _++_}
+use lib.ListN.{length, getD, take, drop}
+use lib.Seq.{take-suc, take-length}
+use lib.Dec.{eqb}
+use borrow.Author.Needs.{needs}
+use borrow.Author.Tests.{eq-eqb, eqb-true}
+use Rattle.ground.proofs.Choices.{both, and-left, and-right}
+use Rattle.fletcher.specs.declared.Sums.{Sums}
+use Rattle.fletcher.specs.Fletcher.{seed, added, sumsFrom, sums, isGood, firstCheck, secondCheck, checkBytes}
+
+-- the sums over bytes put together continue from the sums over the first
+pub sums-append : (s : Sums) (xs ys : List ℕ) → sumsFrom s (xs ++ ys) ≡ sumsFrom (sumsFrom s xs) ys
+unfolding sumsFrom
+sums-append s [] ys = refl
+sums-append s (x ∷ xs) ys = sums-append (added s x) xs ys
+
+-- both sums are below 255
+pub record Small (s : Sums) : Type 0 where
+  pub first : s .first < 255
+  pub second : s .second < 255
+
+pub seed-small : Small seed
+seed-small = record { first = omega arith; second = omega arith }
+
+pub added-small : (s : Sums) (b : ℕ) → Small (added s b)
+added-small s b = record { first = omega arith; second = omega arith }
+
+pub sums-small : (s : Sums) (bs : List ℕ) → Small s → Small (sumsFrom s bs)
+unfolding sumsFrom
+sums-small s [] h = h
+sums-small s (b ∷ bs) h = sums-small (added s b) bs (added-small s b)
+
+-- a check byte is 1 to 255
+pub first-check-least : (s : Sums) → 1 ≤ firstCheck s
+first-check-least s = omega arith
+
+pub first-check-most : (s : Sums) → firstCheck s ≤ 255
+first-check-most s = omega arith
+
+pub second-check-least : (s : Sums) → 1 ≤ secondCheck s
+second-check-least s = omega arith
+
+pub second-check-most : (s : Sums) → secondCheck s ≤ 255
+second-check-most s = omega arith
+
+-- byte 0 and byte 255 are alike to the sums
+pub alike : (s : Sums) → added s 0 ≡ added s 255
+alike s = ap (λ (x : ℕ). record { first = x; second = (s .second + x) % 255 }) (let e : (s .first + 0) % 255 ≡ (s .first + 255) % 255 = omega arith in e)
+
+-- bytes with their check bytes are good
+closing-first : (s : Sums) → Small s → added (added s (firstCheck s)) (secondCheck s) .first ≡ 0
+closing-first s h = omega (arith, h .first, h .second)
+
+after-first : (a b : ℕ) → a < 255 → b < 255 → (b + (a + (255 - (a + b) % 255)) % 255) % 255 ≡ 0
+after-first a b h l = omega arith
+
+closing-second : (s : Sums) → Small s → added (added s (firstCheck s)) (secondCheck s) .second ≡ 0
+closing-second s h = rw (closing-first s h) (rw (after-first (s .first) (s .second) (h .first) (h .second)) refl)
+
+pub checked-good : (bs : List ℕ) → isGood (bs ++ checkBytes bs) ≡ true
+unfolding sumsFrom
+checked-good bs =
+    rw (sums-append seed bs (checkBytes bs))
+    (both (eqb (added (added (sums bs) (firstCheck (sums bs))) (secondCheck (sums bs)) .first) 0) (eqb (added (added (sums bs) (firstCheck (sums bs))) (secondCheck (sums bs)) .second) 0)
+    (eq-eqb _ _ (closing-first (sums bs) (sums-small seed bs seed-small)))
+    (eq-eqb _ _ (closing-second (sums bs) (sums-small seed bs seed-small))))
+
+-- a loop that adds the bytes one by one: the first i are done
+pub sums-none : (bs : List ℕ) → seed ≡ sums (take 0 bs)
+unfolding sumsFrom
+sums-none bs = refl
+
+pub sums-step : (bs : List ℕ) (i b : ℕ) (s r : Sums) → s ≡ sums (take i bs) → i < length bs → b ≡ getD bs i 0 → r ≡ added s b → r ≡ sums (take (i + 1) bs)
+unfolding sumsFrom
+sums-step bs i b s r h l e q = rw (add-one, take-suc bs i 0 l, sums-append seed (take i bs) (getD bs i 0 ∷ []), ← h, ← e) q
+
+pub sums-end : (bs : List ℕ) (i : ℕ) (s : Sums) → s ≡ sums (take i bs) → i ≤ length bs → length bs ≤ i → s ≡ sums bs
+sums-end bs i s h a b = h ∙ rw (let e : i ≡ length bs = omega arith in e) (rw (take-length bs) refl)
+
+-- what closes each need of such a loop
+pub ruleset summing = (needs, sums-none, sums-step, sums-end)

@@ -1,0 +1,20 @@
+-- The contracts, as they stand in the source, leave one result for each input.
+use mathlib.Core.Path.{_≡_, sym, _∙_}
+use mathlib.Core.Bool.{Bool}
+use mathlib.Core.List.{List}
+use Prim.Native.Nat.{ℕ}
+use base.Fml.{Lft}
+use denote.Ref.{RefT}
+use Rattle.fletcher.specs.declared.Sums.{Sums}
+use Rattle.fletcher.proofs.sums_over.Reads as sums-over
+use Rattle.fletcher.proofs.good.Reads as good
+use Rattle.fletcher.proofs.check_bytes.Reads as check-bytes
+
+pub unique-sums-over : (κs a s t : _) (r q : Sums) → sums-over.Post κs a r s → sums-over.Post κs a q t → r ≡ q
+unique-sums-over κs a s t r q p p′ = p .0 ∙ sym (p′ .0)
+
+pub unique-good : (κs a s t : _) (r q : Bool) → good.Post κs a r s → good.Post κs a q t → r ≡ q
+unique-good κs a s t r q p p′ = p ∙ sym p′
+
+pub unique-check-bytes : (κs a s t : _) (r q : List ℕ) → check-bytes.Post κs a r s → check-bytes.Post κs a q t → r ≡ q
+unique-check-bytes κs a s t r q p p′ = p ∙ sym p′

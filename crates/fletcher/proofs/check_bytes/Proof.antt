@@ -1,0 +1,34 @@
+-- `fletcher::check_bytes` meets its contract, by what `sums_over` ensures.
+use mathlib.Core.Path.{refl}
+use borrow.Author.Needs.{needs}
+use Rattle.fletcher.proofs.check_bytes.Statement.{statement}
+use Rattle.fletcher.proofs.check_bytes.Tie as tie
+
+sums-over-requires : tie.Need-sums-over-requires
+sums-over-requires c κs = search needs
+
+add-first : tie.Need-add-first
+add-first c = search needs
+
+sub-first : tie.Need-sub-first
+sub-first c = search needs
+
+add-second : tie.Need-add-second
+add-second c = search needs
+
+sub-second : tie.Need-sub-second
+sub-second c = search needs
+
+cast-t7 : tie.Need-cast-t7
+cast-t7 c = search needs
+
+cast-t8 : tie.Need-cast-t8
+cast-t8 c = search needs
+
+returns : tie.Need-returns
+returns c = rw (← (c .before .before .sums-over .ensures .0)) refl
+
+pub check-bytes-spec : {M : Type 1} → statement M
+check-bytes-spec =
+    tie.close
+    (tie.spec sums-over-requires add-first sub-first add-second sub-second cast-t7 cast-t8 returns)

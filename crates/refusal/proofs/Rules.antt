@@ -1,0 +1,40 @@
+-- What an answer by rules says of the rules.
+use Prim.Native.Nat.{ℕ}
+use mathlib.Core.Path.{_≡_, refl, sym, ap, _∙_}
+use mathlib.Core.Bool.{Bool, true, false}
+use mathlib.Core.List.{List, [], _∷_}
+use Rattle.ground.specs.Choose.{choose}
+use Rattle.refusal.specs.Refusal.{numberOf, refuses, gives, ruled, Told}
+use Rattle.refusal.specs.declared.Refusal.{Refusal}
+use Rattle.refusal.proofs.Numbers.{not-zero, same-refused}
+
+-- none of the rules holds
+abbrev pub Passed : List (Bool × Refusal) → Type 0
+Passed [] = Unit {0}
+Passed (rule ∷ rules) = (rule .0 ≡ false) × Passed rules
+
+-- where none holds the value stands
+pub passed {ℓ} : {A : Type ℓ} (rules : List (Bool × Refusal)) (f : Refusal → A) (v : A) → Passed rules → ruled rules f v ≡ v
+unfolding choose
+passed [] f v h = refl
+passed (rule ∷ rules) f v h = rw (h .0) (passed rules f v (h .1))
+
+-- an answer that gives values passed every rule, and they are its values
+pub gave : (rules : List (Bool × Refusal)) (us vs : List ℕ) → ruled rules refuses (gives us) ≡ gives vs → Passed rules × (us ≡ vs)
+unfolding choose
+gave [] us vs h = (tt, ap (λ (t : Told). t .values) h)
+gave (rule ∷ rules) us vs h = go (gave rules us vs) (rule .0) refl h
+  where
+    go : (ruled rules refuses (gives us) ≡ gives vs → Passed rules × (us ≡ vs)) → (b : Bool) → rule .0 ≡ b → choose b (refuses (rule .1)) (ruled rules refuses (gives us)) ≡ gives vs → Passed (rule ∷ rules) × (us ≡ vs)
+    go rest true e q = absurd (not-zero (rule .1) (ap (λ (t : Told). t .number) q))
+    go rest false e q = ((e, rest q .0), rest q .1)
+
+-- an answer that refuses does so for anything that the same rules guard
+pub refused {ℓ} : {A : Type ℓ} (rules : List (Bool × Refusal)) (us : List ℕ) (f : Refusal → A) (v : A) (q : Refusal) → ruled rules refuses (gives us) ≡ refuses q → ruled rules f v ≡ f q
+unfolding choose
+refused [] us f v q h = absurd (not-zero q (sym (ap (λ (t : Told). t .number) h)))
+refused (rule ∷ rules) us f v q h = go (refused rules us f v q) (rule .0) h
+  where
+    go : (ruled rules refuses (gives us) ≡ refuses q → ruled rules f v ≡ f q) → (b : Bool) → choose b (refuses (rule .1)) (ruled rules refuses (gives us)) ≡ refuses q → choose b (f (rule .1)) (ruled rules f v) ≡ f q
+    go rest true e = ap f (same-refused (rule .1) q e)
+    go rest false e = rest e
