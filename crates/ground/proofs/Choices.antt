@@ -53,9 +53,15 @@ pub and-right : (a b : Bool) → (a && b) ≡ true → b ≡ true
 and-right true b h = h
 and-right false b h = absurd (false≢true h)
 
+pub not-yes : (b : Bool) → b ≡ false → not b ≡ true
+not-yes b h = rw h refl
+
+pub not-no : (b : Bool) → b ≡ true → not b ≡ false
+not-no b h = rw h refl
+
 -- a definition by cases at a value of which the case is known
 pub by-case {ℓ κ} : {A : Type ℓ} {B : Type κ} (f : A → B) {x y : A} {r : B} → x ≡ y → r ≡ f y → r ≡ f x
 by-case f e h = h ∙ sym (ap f e)
 
 -- what closes a return after tests, where the contract chooses by those tests
-pub ruleset tests = (needs, choose-yes, choose-no, and-yes, and-no, both, not-left, not-right, lt-ltb, le-ltb, le-leb, lt-leb, eq-eqb, ne-eqb)
+pub ruleset tests = (needs, choose-yes, choose-no, and-yes, and-no, both, not-left, not-right, not-yes, not-no, lt-ltb, le-ltb, le-leb, lt-leb, eq-eqb, ne-eqb)

@@ -1,0 +1,4 @@
+pub mod Told
+pub mod Laying
+pub mod RoundTrip
+pub mod Unique

@@ -1,0 +1,105 @@
+-- What a reading and a writing say tells them apart, and what a frame that was read says of its bytes.
+use Prim.Native.Nat.{ℕ, _+_, _≤_}
+use mathlib.Core.Path.{_≡_, refl, sym, ap, _∙_}
+use mathlib.Core.Bool.{Bool, true, false, not}
+use mathlib.Core.List.{List, [], _∷_, _++_}
+use lib.ListN.{length, getD, take, drop}
+use borrow.Author.Tests.{ltb-false, eqb-true, not-false}
+use Rattle.refusal.specs.Refusal.{Told, refuses, gives, ruled}
+use Rattle.refusal.specs.declared.Refusal.{Refusal}
+use Rattle.refusal.proofs.Numbers.{not-zero, same-refused}
+use Rattle.refusal.proofs.Rules.{Passed, passed, gave, refused}
+use Rattle.fletcher.specs.Fletcher.{isGood}
+use Rattle.frame.specs.declared.Header.{Header}
+use Rattle.frame.specs.declared.Reading.{Reading}
+use Rattle.frame.specs.declared.Reading.the-variants.{Frame, Refused}
+use Rattle.frame.specs.declared.Writing.{Writing}
+use Rattle.frame.specs.declared.Writing.the-variants.{Written, Refused as NotWritten}
+use Rattle.frame.specs.Frame.{fields, headerOf, lengthByte, readRules, reading, payloadOf, told, toldWritten}
+
+-- the fields tell the header
+pub same-header : (h g : Header) (n m : ℕ) → fields h ++ n ∷ [] ≡ fields g ++ m ∷ [] → h ≡ g
+same-header h g n m e =
+    λ i. record {
+      destination = at 0 i;
+      source = at 1 i;
+      subnet = at 2 i;
+      method = at 3 i;
+      parameter1 = at 4 i;
+      parameter2 = at 5 i;
+      kind = at 6 i;
+      message = at 7 i;
+      packet = at 8 i;
+    }
+  where
+    at : (j : ℕ) → getD (fields h ++ n ∷ []) j 0 ≡ getD (fields g ++ m ∷ []) j 0
+    at j = ap (λ (l : List ℕ). getD l j 0) e
+
+pub same-count : (h g : Header) (n m : ℕ) → fields h ++ n ∷ [] ≡ fields g ++ m ∷ [] → n ≡ m
+same-count h g n m e = ap (λ (l : List ℕ). getD l 9 0) e
+
+values : {a b : Told} → a ≡ b → a .values ≡ b .values
+values e = ap (λ (t : Told). t .values) e
+
+number : {a b : Told} → a ≡ b → a .number ≡ b .number
+number e = ap (λ (t : Told). t .number) e
+
+-- two readings that say the same are the same
+pub same-told : (r q : Reading) → told r ≡ told q → r ≡ q
+same-told (Frame h n) (Frame g m) e = λ i. Frame (same-header h g n m (values e) i) (same-count h g n m (values e) i)
+same-told (Frame h n) (Refused q) e = absurd (not-zero q (sym (number e)))
+same-told (Refused r) (Frame g m) e = absurd (not-zero r (number e))
+same-told (Refused r) (Refused q) e = ap Refused (same-refused r q e)
+
+-- two writings that say the same are the same
+pub same-written : (r q : Writing) → toldWritten r ≡ toldWritten q → r ≡ q
+same-written (Written n) (Written m) e = ap (λ (l : List ℕ). Written (getD l 0 0)) (values e)
+same-written (Written n) (NotWritten q) e = absurd (not-zero q (sym (number e)))
+same-written (NotWritten r) (Written m) e = absurd (not-zero r (number e))
+same-written (NotWritten r) (NotWritten q) e = ap NotWritten (same-refused r q e)
+
+-- what holds of bytes that pass the reader's rules
+pub record Whole (b : List ℕ) : Type 0 where
+  pub small : lengthByte b ≤ 240
+  pub long : length b ≡ 12 + lengthByte b
+  pub good : isGood b ≡ true
+
+pub whole : (b : List ℕ) → Passed (readRules b) → Whole b
+whole b p =
+    record {
+      small = ltb-false _ _ (p .1 .0);
+      long = eqb-true _ _ (not-false _ (p .1 .1 .0));
+      good = not-false _ (p .1 .1 .1 .0);
+    }
+
+-- a frame that was read: its bytes are whole, and the header and the count are theirs
+pub record WellRead (b : List ℕ) (h : Header) (n : ℕ) : Type 0 where
+  pub bytes : Whole b
+  pub header : h ≡ headerOf b
+  pub count : n ≡ lengthByte b
+  pub part : payloadOf b ≡ take n (drop 10 b)
+
+pub well-read : (b : List ℕ) (h : Header) (n : ℕ) → told (Frame h n) ≡ reading b → WellRead b h n
+unfolding reading payloadOf
+well-read b h n e =
+    record {
+      bytes = whole b (g .0);
+      header = sym (same-header (headerOf b) h (lengthByte b) n (g .1));
+      count = sym (same-count (headerOf b) h (lengthByte b) n (g .1));
+      part = passed (readRules b) (λ r. []) (take (lengthByte b) (drop 10 b)) (g .0) ∙ ap (λ (m : ℕ). take m (drop 10 b)) (same-count (headerOf b) h (lengthByte b) n (g .1));
+    }
+  where
+    g : Passed (readRules b) × (fields (headerOf b) ++ lengthByte b ∷ [] ≡ fields h ++ n ∷ [])
+    g = gave (readRules b) (fields (headerOf b) ++ lengthByte b ∷ []) (fields h ++ n ∷ []) (sym e)
+
+-- bytes that were refused have no payload
+pub no-payload : (b : List ℕ) (q : Refusal) → told (Refused q) ≡ reading b → payloadOf b ≡ []
+unfolding reading payloadOf
+no-payload b q e = refused (readRules b) (fields (headerOf b) ++ lengthByte b ∷ []) (λ r. []) (take (lengthByte b) (drop 10 b)) q (sym e)
+
+-- the same of what a call of the reader gave
+pub read-frame : {r : Reading} {h : Header} {n : ℕ} (b : List ℕ) → r ≡ Frame h n → told r ≡ reading b → WellRead b h n
+read-frame {h = h} {n} b e t = well-read b h n (ap told (sym e) ∙ t)
+
+pub read-refused : {r : Reading} {q : Refusal} (b : List ℕ) → r ≡ Refused q → told r ≡ reading b → payloadOf b ≡ []
+read-refused {q = q} b e t = no-payload b q (ap told (sym e) ∙ t)

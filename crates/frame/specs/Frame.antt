@@ -1,0 +1,89 @@
+-- The frame (001, sections 5 and 7; 01, "The frame").
+use Prim.Native.Nat.{ℕ, _+_}
+use mathlib.Core.Bool.{Bool, not}
+use mathlib.Core.List.{List, [], _∷_, _++_}
+use lib.ListN.{length, getD, take, drop}
+use lib.Dec.{eqb, ltb}
+use Rattle.refusal.specs.Refusal.{Told, refuses, gives, ruled}
+use Rattle.refusal.specs.declared.Refusal.{Refusal}
+use Rattle.refusal.specs.declared.Refusal.the-variants.{Short, OverLong, LengthMismatch, BadChecksum, PayloadTooLong, NoRoom}
+use Rattle.fletcher.specs.Fletcher.{isGood, checkBytes}
+use Rattle.frame.specs.declared.Header.{Header}
+use Rattle.frame.specs.declared.Reading.{Reading}
+use Rattle.frame.specs.declared.Reading.the-variants.{Frame, Refused}
+use Rattle.frame.specs.declared.Writing.{Writing}
+use Rattle.frame.specs.declared.Writing.the-variants.{Written, Refused as NotWritten}
+
+-- the byte at an offset
+abbrev pub byte : List ℕ → ℕ → ℕ
+byte b i = getD b i 0
+
+-- the header's fields stand at offsets 0 to 8 (01, "The frame")
+abbrev pub headerOf : List ℕ → Header
+headerOf b =
+    record {
+      destination = byte b 0;
+      source = byte b 1;
+      subnet = byte b 2;
+      method = byte b 3;
+      parameter1 = byte b 4;
+      parameter2 = byte b 5;
+      kind = byte b 6;
+      message = byte b 7;
+      packet = byte b 8;
+    }
+
+-- the header's nine bytes in the order of the wire (01, "The frame")
+abbrev pub fields : Header → List ℕ
+fields h =
+    h .destination ∷ h .source ∷ h .subnet ∷ h .method ∷ h .parameter1 ∷ h .parameter2 ∷ h .kind ∷ h .message ∷ h .packet ∷ []
+
+-- the payload's length stands at offset 9 (01, "The frame")
+abbrev pub lengthByte : List ℕ → ℕ
+lengthByte b = byte b 9
+
+-- when the reader refuses, in the order of the numbers 1 to 4 (01, "Numbers" and "Order")
+abbrev pub readRules : List ℕ → List (Bool × Refusal)
+readRules b =
+    (ltb (length b) 12, Short) ∷
+    (ltb 240 (lengthByte b), OverLong) ∷
+    (not (eqb (length b) (12 + lengthByte b)), LengthMismatch) ∷
+    (not (isGood b), BadChecksum) ∷ []
+
+-- what the reader says of bytes: the nine fields and the payload's length, or its refusal
+unfoldable pub reading : List ℕ → Told
+reading b = ruled (readRules b) refuses (gives (fields (headerOf b) ++ lengthByte b ∷ []))
+
+-- the payload: the bytes from offset 10 on, as many as the length byte says; empty on a refusal (01, "The frame")
+unfoldable pub payloadOf : List ℕ → List ℕ
+payloadOf b = ruled (readRules b) (λ r. []) (take (lengthByte b) (drop 10 b))
+
+-- what a reading says
+abbrev pub told : Reading → Told
+told (Frame h n) = gives (fields h ++ n ∷ [])
+told (Refused r) = refuses r
+
+-- a frame before its check bytes: the fields, the payload's length, the payload (01, "The frame")
+abbrev pub body : Header → List ℕ → List ℕ
+body h p = (fields h ++ length p ∷ []) ++ p
+
+-- the frame of a header and a payload
+unfoldable pub frameOf : Header → List ℕ → List ℕ
+frameOf h p = body h p ++ checkBytes (body h p)
+
+-- when the writer refuses: 10, then 11 (01, "Order")
+abbrev pub writeRules : List ℕ → ℕ → List (Bool × Refusal)
+writeRules p room = (ltb 240 (length p), PayloadTooLong) ∷ (ltb room (12 + length p), NoRoom) ∷ []
+
+-- what the writer says, with this much room: the count of bytes written, or its refusal
+unfoldable pub writing : List ℕ → ℕ → Told
+writing p room = ruled (writeRules p room) refuses (gives ((12 + length p) ∷ []))
+
+-- the bytes that it writes at the front of the room: the frame, or none on a refusal (01, "A refusal .. writes nowhere")
+unfoldable pub writtenBytes : Header → List ℕ → ℕ → List ℕ
+writtenBytes h p room = ruled (writeRules p room) (λ r. []) (frameOf h p)
+
+-- what a writing says
+abbrev pub toldWritten : Writing → Told
+toldWritten (Written n) = gives (n ∷ [])
+toldWritten (NotWritten r) = refuses r

@@ -1,0 +1,134 @@
+// The CT-485 frame: its fields, the reader and the writer.
+use refusal::Refusal;
+ghost use mathlib.Core.Path.{_≡_};
+ghost use mathlib.Core.List.{_++_, _∷_, []};
+ghost use Prim.Native.Nat.{_+_, _≤_};
+ghost use lib.ListN.{length};
+ghost use lib.Seq.{paste};
+ghost use Rattle.ground.specs.Bytes.{laid};
+ghost use Rattle.frame.specs.Frame.{fields, headerOf, told, reading, payloadOf, toldWritten, writing, writtenBytes};
+
+// The nine bytes before the payload length, in the order of the wire.
+pub struct Header {
+    pub destination: u8,
+    pub source: u8,
+    pub subnet: u8,
+    pub method: u8,
+    pub parameter1: u8,
+    pub parameter2: u8,
+    pub kind: u8,
+    pub message: u8,
+    pub packet: u8,
+}
+
+// What reading finds: the header and the payload's length, or why there is no frame.
+pub enum Reading {
+    Frame(Header, usize),
+    Refused(Refusal),
+}
+
+// What writing did: the count of bytes written, or why none was.
+pub enum Writing {
+    Written(usize),
+    Refused(Refusal),
+}
+
+fn header_of(bytes: &[u8]) -> Header
+    requires { ⌜ 12 ≤ length (now bytes) ⌝ }
+    ensures { λ r. ⌜ r ≡ headerOf (now (bytes .entry)) ⌝ }
+{
+    Header {
+        destination: bytes[0],
+        source: bytes[1],
+        subnet: bytes[2],
+        method: bytes[3],
+        parameter1: bytes[4],
+        parameter2: bytes[5],
+        kind: bytes[6],
+        message: bytes[7],
+        packet: bytes[8],
+    }
+}
+
+// Reads bytes as one whole frame.
+pub fn read(bytes: &[u8]) -> Reading
+    ensures { λ r. ⌜ told r ≡ reading (now (bytes .entry)) ⌝ }
+{
+    if bytes.len() < 12 {
+        return Reading::Refused(Refusal::Short);
+    }
+    let n = bytes[9] as usize;
+    if 240 < n {
+        return Reading::Refused(Refusal::OverLong);
+    }
+    if bytes.len() != 12 + n {
+        return Reading::Refused(Refusal::LengthMismatch);
+    }
+    if !fletcher::good(bytes) {
+        return Reading::Refused(Refusal::BadChecksum);
+    }
+    Reading::Frame(header_of(bytes), n)
+}
+
+// The payload of a frame, as a part of its bytes; empty where the bytes are no frame.
+pub fn payload(bytes: &[u8]) -> &[u8]
+    ensures { λ r. ⌜ now r ≡ payloadOf (now (bytes .entry)) ⌝ }
+{
+    match read(bytes) {
+        Reading::Frame(_, n) => {
+            let end = 10 + n;
+            &bytes[10..end]
+        }
+        Reading::Refused(_) => &bytes[..0],
+    }
+}
+
+// Copies bytes into out from `at` on.
+fn lay(out: &mut [u8], at: usize, bytes: &[u8])
+    requires { ⌜ at + length (now bytes) ≤ length (now out) ⌝ }
+    ensures { λ r. ⌜ now (out .exit) ≡ paste (now (out .entry)) at (now (bytes .entry)) (length (now (bytes .entry))) ⌝ }
+{
+    let mut i: usize = 0;
+    while i < bytes.len() {
+        out[at + i] = bytes[i];
+        i += 1;
+    }
+}
+
+// The ten bytes before the payload.
+fn head(header: Header, n: u8) -> [u8; 10]
+    ensures { λ r. ⌜ r ≡ fields header ++ n ∷ [] ⌝ }
+{
+    [
+        header.destination,
+        header.source,
+        header.subnet,
+        header.method,
+        header.parameter1,
+        header.parameter2,
+        header.kind,
+        header.message,
+        header.packet,
+        n,
+    ]
+}
+
+// Writes a frame with this header and payload at the front of out.
+pub fn write(header: Header, payload: &[u8], out: &mut [u8]) -> Writing
+    ensures { λ r. ⌜ (toldWritten r ≡ writing (now (payload .entry)) (length (now (out .entry)))) × (now (out .exit) ≡ laid (writtenBytes header (now (payload .entry)) (length (now (out .entry)))) (now (out .entry))) ⌝ }
+{
+    let n = payload.len();
+    if 240 < n {
+        return Writing::Refused(Refusal::PayloadTooLong);
+    }
+    if out.len() < 12 + n {
+        return Writing::Refused(Refusal::NoRoom);
+    }
+    let front = head(header, n as u8);
+    lay(out, 0, &front);
+    lay(out, 10, payload);
+    let end = 10 + n;
+    let check = fletcher::check_bytes(&out[..end]);
+    lay(out, end, &check);
+    Writing::Written(12 + n)
+}
