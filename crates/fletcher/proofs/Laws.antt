@@ -9,10 +9,12 @@ use lib.ListN.{length, getD, take, drop}
 use lib.Seq.{take-suc, take-length}
 use lib.Dec.{eqb}
 use borrow.Author.Needs.{needs}
-use borrow.Author.Tests.{eq-eqb, eqb-true}
+use borrow.Author.Tests.{eq-eqb, ne-eqb, eqb-true}
+use native.Mathlib.Decide.{ℕ-discrete}
+use Rattle.ground.specs.Choose.{choose}
 use Rattle.ground.proofs.Choices.{both, and-left, and-right}
 use Rattle.fletcher.specs.declared.Sums.{Sums}
-use Rattle.fletcher.specs.Fletcher.{seed, added, sumsFrom, sums, isGood, firstCheck, secondCheck, checkBytes}
+use Rattle.fletcher.specs.Fletcher.{seed, added, sumsFrom, sums, isGood, firstCheck, secondCheck, checkBytes, neverZero}
 
 -- the sums over bytes put together continue from the sums over the first
 pub sums-append : (s : Sums) (xs ys : List ℕ) → sumsFrom s (xs ++ ys) ≡ sumsFrom (sumsFrom s xs) ys
@@ -70,6 +72,54 @@ checked-good bs =
     (both (eqb (added (added (sums bs) (firstCheck (sums bs))) (secondCheck (sums bs)) .first) 0) (eqb (added (added (sums bs) (firstCheck (sums bs))) (secondCheck (sums bs)) .second) 0)
     (eq-eqb _ _ (closing-first (sums bs) (sums-small seed bs seed-small)))
     (eq-eqb _ _ (closing-second (sums bs) (sums-small seed bs seed-small))))
+
+-- bytes c and d that close the sums are the check bytes, but for a 0 that is written 255
+never-zero-case : (c x : ℕ) → (c ≡ 0 → x ≡ 255) → ((c ≡ 0 → ⊥) → x ≡ c) → x ≡ neverZero c
+unfolding neverZero choose
+never-zero-case c x at-zero other = go (ℕ-discrete c 0)
+  where
+    go : Dec (c ≡ 0) → x ≡ choose (eqb c 0) 255 c
+    go (yes e) = rw (eq-eqb c 0 e) (at-zero e)
+    go (no ne) = rw (ne-eqb c 0 ne) (other ne)
+
+first-closes : (a b c : ℕ) → a < 255 → b < 255 → c < 256 → (b + (a + c) % 255) % 255 ≡ 0 → 255 - (a + b) % 255 ≡ neverZero c
+first-closes a b c ha hb hc e = never-zero-case c (255 - (a + b) % 255) (λ z. omega arith) (λ n. omega arith)
+
+second-closes : (x d : ℕ) → x < 255 → d < 256 → (x + d) % 255 ≡ 0 → 255 - x ≡ neverZero d
+second-closes x d hx hd e = never-zero-case d (255 - x) (λ z. omega arith) (λ n. omega arith)
+
+never-zero-alike : (a c : ℕ) → (a + neverZero c) % 255 ≡ (a + c) % 255
+unfolding neverZero choose
+never-zero-alike a c = go (ℕ-discrete c 0)
+  where
+    go : Dec (c ≡ 0) → (a + choose (eqb c 0) 255 c) % 255 ≡ (a + c) % 255
+    go (yes e) = rw (eq-eqb c 0 e, e) (omega arith)
+    go (no ne) = rw (ne-eqb c 0 ne) refl
+
+module _ (s : Sums) (c d : ℕ) (small : Small s) (hc : c < 256) (hd : d < 256)
+    (first : added (added s c) d .first ≡ 0) (second : added (added s c) d .second ≡ 0) where
+  pub first-is : firstCheck s ≡ neverZero c
+  first-is = first-closes (s .first) (s .second) c (small .first) (small .second) hc (omega (arith, first, second))
+
+  pub second-is : secondCheck s ≡ neverZero d
+  second-is = rw (first-is, never-zero-alike (s .first) c) (second-closes ((s .first + c) % 255) d (omega arith) hd first)
+
+-- a good frame's last two bytes are the check bytes of those before, but for a 0 that is written 255
+pub only-check : (bs : List ℕ) (c d : ℕ) → c < 256 → d < 256 → isGood (bs ++ c ∷ d ∷ []) ≡ true → checkBytes bs ≡ neverZero c ∷ neverZero d ∷ []
+unfolding sumsFrom
+only-check bs c d hc hd g = rw (second-is (sums bs) c d small hc hd one two, first-is (sums bs) c d small hc hd one two) refl
+  where
+    small : Small (sums bs)
+    small = sums-small seed bs seed-small
+
+    over : sumsFrom seed (bs ++ c ∷ d ∷ []) ≡ added (added (sums bs) c) d
+    over = sums-append seed bs (c ∷ d ∷ [])
+
+    one : added (added (sums bs) c) d .first ≡ 0
+    one = ap (λ (x : Sums). x .first) (sym over) ∙ eqb-true _ _ (and-left (eqb (sums (bs ++ c ∷ d ∷ []) .first) 0) (eqb (sums (bs ++ c ∷ d ∷ []) .second) 0) g)
+
+    two : added (added (sums bs) c) d .second ≡ 0
+    two = ap (λ (x : Sums). x .second) (sym over) ∙ eqb-true _ _ (and-right (eqb (sums (bs ++ c ∷ d ∷ []) .first) 0) (eqb (sums (bs ++ c ∷ d ∷ []) .second) 0) g)
 
 -- a loop that adds the bytes one by one: the first i are done
 pub sums-none : (bs : List ℕ) → seed ≡ sums (take 0 bs)

@@ -3,6 +3,7 @@ use Prim.Native.Nat.{ℕ, _+_, _-_, _%_}
 use mathlib.Core.Bool.{Bool, _&&_}
 use mathlib.Core.List.{List, [], _∷_}
 use lib.Dec.{eqb}
+use Rattle.ground.specs.Choose.{choose}
 use Rattle.fletcher.specs.declared.Sums.{Sums}
 
 -- the sums start at 170 and 0 (01, "The frame")
@@ -37,3 +38,7 @@ secondCheck s = 255 - (s .first + firstCheck s) % 255
 -- the check bytes of bytes (01, "On writing")
 abbrev pub checkBytes : List ℕ → List ℕ
 checkBytes bs = firstCheck (sums bs) ∷ secondCheck (sums bs) ∷ []
+
+-- a check byte as it is written: never 0, for which 255 stands (01, "A written check byte is never 0")
+unfoldable pub neverZero : ℕ → ℕ
+neverZero c = choose (eqb c 0) 255 c

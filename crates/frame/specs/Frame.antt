@@ -7,7 +7,7 @@ use lib.Dec.{eqb, ltb}
 use Rattle.refusal.specs.Refusal.{Told, refuses, gives, ruled}
 use Rattle.refusal.specs.declared.Refusal.{Refusal}
 use Rattle.refusal.specs.declared.Refusal.the-variants.{Short, OverLong, LengthMismatch, BadChecksum, PayloadTooLong, NoRoom}
-use Rattle.fletcher.specs.Fletcher.{isGood, checkBytes}
+use Rattle.fletcher.specs.Fletcher.{isGood, checkBytes, neverZero}
 use Rattle.frame.specs.declared.Header.{Header}
 use Rattle.frame.specs.declared.Reading.{Reading}
 use Rattle.frame.specs.declared.Reading.the-variants.{Frame, Refused}
@@ -70,6 +70,11 @@ body h p = (fields h ++ length p ∷ []) ++ p
 -- the frame of a header and a payload
 unfoldable pub frameOf : Header → List ℕ → List ℕ
 frameOf h p = body h p ++ checkBytes (body h p)
+
+-- the same frame with each check byte as it is written: 255 in the place of a 0 (00, demand 2)
+unfoldable pub settled : List ℕ → List ℕ
+settled b =
+    take (10 + lengthByte b) b ++ neverZero (byte b (10 + lengthByte b)) ∷ neverZero (byte b (11 + lengthByte b)) ∷ []
 
 -- when the writer refuses: 10, then 11 (01, "Order")
 abbrev pub writeRules : List ℕ → ℕ → List (Bool × Refusal)

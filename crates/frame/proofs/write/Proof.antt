@@ -4,7 +4,6 @@ use borrow.Author.Tests.{lt-ltb, le-ltb}
 use mathlib.Core.List.{[], _∷_, _++_}
 use native.Mathlib.Omega.{arith}
 use lib.ListN.{length, length-take}
-
 use denote.Ref.{now}
 use Rattle.ground.specs.Choose.{choose}
 use Rattle.frame.specs.Frame.{fields, writing, writtenBytes, frameOf}
@@ -67,10 +66,11 @@ returns-3 : tie.Need-returns-3
 unfolding writing writtenBytes frameOf choose
 returns-3 c =
     let args = c .before .before .before .before .before .before .before .before .before .before .before .before .before .before .before .before .before .before .before .before .before .args in
-    rw (le-ltb _ _ (c .before .before .before .before .before .before .before .before .before .before .before .before .before .before .before .before .before .before .if1 .left), le-ltb _ _ (c .before .before .before .before .before .before .before .before .before .before .before .before .before .before .before .before .before .if2 .left))
-    (refl,
-    three-laid (fields (args .header) ++ length (now (args .payload)) ∷ []) (now (args .payload)) (now (args .out)) refl (c .before .before .before .before .before .before .before .before .before .before .before .before .before .before .before .before .before .if2 .left) _ _ _ _
-    (rw (c .before .before .before .before .before .before .before .before .before .before .before .before .before .before .before .before .head .ensures) at (c .before .before .before .before .before .before .before .before .before .before .before .before .before .lay .ensures)) (c .before .before .before .before .before .before .before .before .before .lay2 .ensures) (c .before .before .before .before .before .check-bytes .ensures) (c .before .before .lay3 .ensures))
+    rw (le-ltb _ _ (c .before .before .before .before .before .before .before .before .before .before .before .before .before .before .before .before .before .before .if1 .left), le-ltb _ _ (c .before .before .before .before .before .before .before .before .before .before .before .before .before .before .before .before .before .if2 .left)) (
+      refl,
+      three-laid (fields (args .header) ++ length (now (args .payload)) ∷ []) (now (args .payload)) (now (args .out)) refl (c .before .before .before .before .before .before .before .before .before .before .before .before .before .before .before .before .before .if2 .left) _ _ _ _
+          (rw (c .before .before .before .before .before .before .before .before .before .before .before .before .before .before .before .before .head .ensures) at (c .before .before .before .before .before .before .before .before .before .before .before .before .before .lay .ensures)) (c .before .before .before .before .before .before .before .before .before .lay2 .ensures) (c .before .before .before .before .before .check-bytes .ensures) (c .before .before .lay3 .ensures),
+    )
 
 pub write-spec : {M : Type 1} → statement M
 write-spec =
