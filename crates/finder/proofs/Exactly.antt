@@ -1,0 +1,85 @@
+-- When each finding is given: exactly when the rule says (01, "Finder").
+use Prim.Native.Nat.{ℕ, _+_, _-_, _≤_, _<_, min}
+use native.Mathlib.Omega.{arith}
+use mathlib.Core.Path.{_≡_, refl, sym, ap, _∙_}
+use mathlib.Core.Logic.{_⊎_, inl, inr, _↔_}
+use mathlib.Core.Bool.{Bool, true, false, false≢true}
+use mathlib.Core.List.{List}
+use lib.Dec.{ltb}
+use borrow.Author.Tests.{ltb-true, ltb-false}
+use Rattle.ground.specs.Choose.{choose}
+use Rattle.ground.proofs.Firsts.{First, FirstCase, first-case}
+use Rattle.refusal.specs.Refusal.{Told}
+use Rattle.finder.specs.Finder.{starts, lengthAt, holdsFrame, limit, firstFrame, found, nothing, spent, finding}
+use Rattle.finder.proofs.Laws.{number, value, differ}
+
+-- no good frame begins at the first n starts
+abbrev pub NoneIn : List ℕ → ℕ → Type 0
+NoneIn s n = (i : ℕ) → i < n → holdsFrame s i ≡ false
+
+-- a good frame begins at start i, within the budget, and at no start before it
+pub record FoundAt (s : List ℕ) (budget i : ℕ) : Type 0 where
+  pub within : i < budget
+  pub a-start : i < starts s
+  pub holds : holdsFrame s i ≡ true
+  pub first : NoneIn s i
+
+-- the three findings, each with what it takes
+abbrev pub Cases : List ℕ → ℕ → Told → Type 0
+Cases s budget r =
+    ((i : ℕ) × (FoundAt s budget i × (r ≡ found i (12 + lengthAt s i) (i + 1)))) ⊎
+    ((NoneIn s (starts s) × ((starts s ≤ budget) × (r ≡ nothing (starts s)))) ⊎
+    (NoneIn s budget × ((budget < starts s) × (r ≡ spent budget))))
+
+none-within : (s : List ℕ) (budget : ℕ) → limit s budget ≤ firstFrame s budget → NoneIn s (limit s budget)
+none-within s budget h = go (first-case (limit s budget) (holdsFrame s) 0 (limit s budget))
+  where
+    go : FirstCase (limit s budget) (holdsFrame s) 0 (limit s budget) (firstFrame s budget) → NoneIn s (limit s budget)
+    go (inl (none, e)) = λ i l. none i (omega arith) (omega arith)
+    go (inr f) = absurd (let z : ⊥ = omega (arith, f .within) in z)
+
+first-within : (s : List ℕ) (budget : ℕ) → firstFrame s budget < limit s budget → FoundAt s budget (firstFrame s budget)
+first-within s budget h = go (first-case (limit s budget) (holdsFrame s) 0 (limit s budget))
+  where
+    go : FirstCase (limit s budget) (holdsFrame s) 0 (limit s budget) (firstFrame s budget) → FoundAt s budget (firstFrame s budget)
+    go (inl (none, e)) = absurd (let z : ⊥ = omega (arith, e) in z)
+    go (inr f) = record { within = omega arith; a-start = omega arith; holds = f .passes; first = λ i l. f .before i (omega arith) l }
+
+-- the finder says one of the three, with what it takes
+pub finding-cases : (s : List ℕ) (budget : ℕ) → Cases s budget (finding s budget)
+unfolding finding choose
+finding-cases s budget = go (ltb (firstFrame s budget) (limit s budget)) refl (ltb budget (starts s)) refl
+  where
+    go : (b : Bool) → ltb (firstFrame s budget) (limit s budget) ≡ b → (d : Bool) → ltb budget (starts s) ≡ d → Cases s budget (choose b (found (firstFrame s budget) (12 + lengthAt s (firstFrame s budget)) (firstFrame s budget + 1)) (choose d (spent budget) (nothing (starts s))))
+    go true e d q = inl (firstFrame s budget, (first-within s budget (ltb-true _ _ e), refl))
+    go false e true q = inr (inr ((λ i l. none-within s budget (ltb-false _ _ e) i (omega (arith, ltb-true budget (starts s) q))), (ltb-true _ _ q, refl)))
+    go false e false q = inr (inl ((λ i l. none-within s budget (ltb-false _ _ e) i (omega (arith, ltb-false budget (starts s) q))), (ltb-false _ _ q, refl)))
+
+-- Spent is given exactly when no good frame begins at the first budget starts and more starts remain
+pub spent-exactly : (s : List ℕ) (budget tried : ℕ) → (finding s budget ≡ spent tried) ↔ (NoneIn s budget × ((budget < starts s) × (tried ≡ budget)))
+spent-exactly s budget tried = (λ e. only e (finding-cases s budget), λ h. when h (finding-cases s budget))
+  where
+    only : finding s budget ≡ spent tried → Cases s budget (finding s budget) → NoneIn s budget × ((budget < starts s) × (tried ≡ budget))
+    only e (inl (i, (f, q))) = differ (number (sym q ∙ e)) (λ n. omega arith)
+    only e (inr (inl (n, (l, q)))) = differ (number (sym q ∙ e)) (λ n. omega arith)
+    only e (inr (inr (n, (l, q)))) = (n, (l, value 0 (sym e ∙ q)))
+
+    when : NoneIn s budget × ((budget < starts s) × (tried ≡ budget)) → Cases s budget (finding s budget) → finding s budget ≡ spent tried
+    when h (inl (i, (f, q))) = absurd (false≢true (sym (h .0 i (f .within)) ∙ f .holds))
+    when h (inr (inl (n, (l, q)))) = absurd (let z : ⊥ = omega (arith, h .1 .0) in z)
+    when h (inr (inr (n, (l, q)))) = q ∙ ap spent (sym (h .1 .1))
+
+-- the starts tried are never more than the budget
+pub tried-most : (s : List ℕ) (budget i long tried : ℕ) → (finding s budget ≡ found i long tried) ⊎ ((finding s budget ≡ nothing tried) ⊎ (finding s budget ≡ spent tried)) → tried ≤ budget
+tried-most s budget i long tried e = go e (finding-cases s budget)
+  where
+    go : (finding s budget ≡ found i long tried) ⊎ ((finding s budget ≡ nothing tried) ⊎ (finding s budget ≡ spent tried)) → Cases s budget (finding s budget) → tried ≤ budget
+    go (inl e) (inl (j, (f, q))) = omega (arith, value 2 (sym e ∙ q), f .within)
+    go (inl e) (inr (inl (n, (l, q)))) = differ (number (sym e ∙ q)) (λ n. omega arith)
+    go (inl e) (inr (inr (n, (l, q)))) = differ (number (sym e ∙ q)) (λ n. omega arith)
+    go (inr (inl e)) (inl (j, (f, q))) = differ (number (sym e ∙ q)) (λ n. omega arith)
+    go (inr (inl e)) (inr (inl (n, (l, q)))) = omega (arith, value 0 (sym e ∙ q), l)
+    go (inr (inl e)) (inr (inr (n, (l, q)))) = differ (number (sym e ∙ q)) (λ n. omega arith)
+    go (inr (inr e)) (inl (j, (f, q))) = differ (number (sym e ∙ q)) (λ n. omega arith)
+    go (inr (inr e)) (inr (inl (n, (l, q)))) = differ (number (sym e ∙ q)) (λ n. omega arith)
+    go (inr (inr e)) (inr (inr (n, (l, q)))) = omega (arith, value 0 (sym e ∙ q))
