@@ -3,14 +3,19 @@ use Prim.Native.Nat.{ℕ, _+_, _-_, _≤_, _<_, min}
 use native.Mathlib.Omega.{arith}
 use mathlib.Core.Path.{_≡_, refl, sym, ap, _∙_}
 use mathlib.Core.Logic.{_⊎_, inl, inr, _↔_}
-use mathlib.Core.Bool.{Bool, true, false, false≢true}
+use mathlib.Core.Bool.{Bool, true, false, _&&_, false≢true}
 use mathlib.Core.List.{List}
-use lib.Dec.{ltb}
-use borrow.Author.Tests.{ltb-true, ltb-false}
+use lib.ListN.{length, take, drop}
+use lib.Dec.{leb, ltb}
+use borrow.Author.Tests.{ltb-true, ltb-false, leb-true}
 use Rattle.ground.specs.Choose.{choose}
+use Rattle.ground.proofs.Choices.{and-left, and-right}
 use Rattle.ground.proofs.Firsts.{First, FirstCase, first-case}
 use Rattle.refusal.specs.Refusal.{Told}
-use Rattle.finder.specs.Finder.{starts, lengthAt, holdsFrame, limit, firstFrame, found, nothing, spent, finding}
+use Rattle.finder.specs.Finder.{starts, lengthAt, holdsFrame, limit, firstFrame, found, nothing, spent, finding, told}
+use Rattle.finder.specs.declared.Finding.{Finding}
+use Rattle.finder.specs.declared.Finding.the-variants.{Found}
+use Rattle.fletcher.specs.Fletcher.{isGood}
 use Rattle.finder.proofs.Laws.{number, value, differ}
 
 -- no good frame begins at the first n starts
@@ -83,3 +88,21 @@ tried-most s budget i long tried e = go e (finding-cases s budget)
     go (inr (inr e)) (inl (j, (f, q))) = differ (number (sym e ∙ q)) (λ n. omega arith)
     go (inr (inr e)) (inr (inl (n, (l, q)))) = differ (number (sym e ∙ q)) (λ n. omega arith)
     go (inr (inr e)) (inr (inr (n, (l, q)))) = omega (arith, value 0 (sym e ∙ q))
+
+-- a start that holds a frame has all its bytes before the end
+pub held-inside : (s : List ℕ) (i : ℕ) → i < starts s → holdsFrame s i ≡ true → i + (12 + lengthAt s i) ≤ length s
+unfolding holdsFrame
+held-inside s i h e = omega (arith, leb-true (12 + lengthAt s i) (length s - i) (and-left (leb (12 + lengthAt s i) (length s - i)) (isGood (take (12 + lengthAt s i) (drop i s))) (and-right (leb (lengthAt s i) 240) (leb (12 + lengthAt s i) (length s - i) && isGood (take (12 + lengthAt s i) (drop i s))) e)))
+
+-- what is found lies whole in the stretch, and is no shorter than the shortest frame
+pub record Inside (s : List ℕ) (start long : ℕ) : Type 0 where
+  pub end : start + long ≤ length s
+  pub least : 12 ≤ long
+
+pub found-inside : {r : Finding} {i long tried : ℕ} (s : List ℕ) (budget : ℕ) → r ≡ Found i long tried → told r ≡ finding s budget → Inside s i long
+found-inside {i = i} {long} {tried} s budget e t = go (ap told (sym e) ∙ t) (finding-cases s budget)
+  where
+    go : found i long tried ≡ finding s budget → Cases s budget (finding s budget) → Inside s i long
+    go e (inl (j, (f, q))) = record { end = omega (arith, held-inside s j (f .a-start) (f .holds), value 0 (e ∙ q), value 1 (e ∙ q)); least = omega (arith, value 1 (e ∙ q)) }
+    go e (inr (inl (n, (l, q)))) = differ (number (e ∙ q)) (λ n. omega arith)
+    go e (inr (inr (n, (l, q)))) = differ (number (e ∙ q)) (λ n. omega arith)
