@@ -82,8 +82,8 @@ round-case p k a = rw (looks p k a) (go (firstOr 0 p (upFrom 1 (min a k))) (firs
           within = omega (arith, f .within, f .from);
           passes = f .passes;
           nearer = λ q h l near. by-side _ a q
-            (λ m. f .before q (omega arith) (omega (arith, ahead k a q m, ahead k a (firstOr s p (upFrom (a + 1) (k - a))) (omega (arith, f .from)))))
-            (λ m. absurd (let z : ⊥ = omega (arith, behind k a q m, ahead k a (firstOr s p (upFrom (a + 1) (k - a))) (omega (arith, f .from)), f .within, f .from) in z));
+              (λ m. f .before q (omega arith) (omega (arith, ahead k a q m, ahead k a (firstOr s p (upFrom (a + 1) (k - a))) (omega (arith, f .from)))))
+              (λ m. absurd (let z : ⊥ = omega (arith, behind k a q m, ahead k a (firstOr s p (upFrom (a + 1) (k - a))) (omega (arith, f .from)), f .within, f .from) in z));
         })
     go s (inl (none, zeroed)) (inl (after, e)) = inl ((λ i h l. by-side _ a i (λ m. after i (omega arith) (omega arith)) (λ m. none i h (omega arith))), e ∙ zeroed)
     go s (inr f) (inl (after, e)) =
@@ -94,8 +94,8 @@ round-case p k a = rw (looks p k a) (go (firstOr 0 p (upFrom 1 (min a k))) (firs
           within = omega (arith, f .within);
           passes = f .passes;
           nearer = λ q h l near. by-side _ a q
-            (λ m. after q (omega arith) (omega arith))
-            (λ m. f .before q h (omega (arith, behind k a q m, behind k a s (omega (arith, f .within)))));
+              (λ m. after q (omega arith) (omega arith))
+              (λ m. f .before q h (omega (arith, behind k a q m, behind k a s (omega (arith, f .within)))));
         }))
 
 -- the next listed position is 0 and nobody from 1 to k is listed; or it is listed, within 1 to k, and nobody listed is nearer
