@@ -12,7 +12,7 @@ use Rattle.ground.proofs.Choices.{choose-yes}
 use Rattle.board.specs.declared.Node.{Node}
 use Rattle.board.specs.Node.{none}
 use Rattle.board.specs.Table.{at, put, listedAt}
-use Rattle.board.specs.Change.{owing, oweAll}
+use Rattle.board.specs.Change.{owe, oweAll}
 use Rattle.board.proofs.Positions.{at-position, at-zero, put-position, put-zero}
 
 -- what holds at position 0 and at those from 1 on
@@ -41,13 +41,13 @@ unfolding at
 at-map f e t zero = sym e
 at-map f e t (suc p) = ap (λ (d : Node). getD (map f t) p d) (sym e) ∙ List·getD-map f t p none
 
-pub at-owe-all : (t : List Node) (p : ℕ) → at (oweAll t) p ≡ owing (at t p)
+pub at-owe-all : (t : List Node) (p : ℕ) → at (oweAll t) p ≡ owe (at t p)
 unfolding oweAll choose
-at-owe-all t p = at-map owing refl t p
+at-owe-all t p = at-map owe refl t p
 
 pub owe-all-length : (t : List Node) → length (oweAll t) ≡ length t
 unfolding oweAll
-owe-all-length t = length-map t owing
+owe-all-length t = length-map t owe
 
 -- two records that are alike but for the mark of the list
 pub record SameBoard (a b : Node) : Type 0 where

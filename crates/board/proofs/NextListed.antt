@@ -4,14 +4,13 @@ use native.Mathlib.Omega.{arith}
 use native.Mathlib.Decide.{ℕ-discrete}
 use mathlib.Core.Path.{_≡_, refl, sym, _∙_, ap}
 use mathlib.Core.Logic.{_⊎_, inl, inr}
-use mathlib.Core.List.{List, _++_}
+use mathlib.Core.List.{List}
 use mathlib.Core.Bool.{Bool, true, false, false≢true}
 use lib.Dec.{ltb, leb}
 use borrow.Author.Tests.{lt-ltb, le-ltb, ltb-true, ltb-false, leb-true, leb-false}
-use Rattle.ground.specs.Choose.{choose}
 use Rattle.ground.specs.Below.{upFrom, firstOr}
 use Rattle.ground.proofs.Choices.{choose-yes, choose-no}
-use Rattle.ground.proofs.Firsts.{First, FirstCase, None, first-case, first-append, first-found, first-else}
+use Rattle.ground.proofs.Firsts.{FirstCase, None, first-case, first-append, first-found, first-else}
 use Rattle.board.specs.declared.Node.{Node}
 use Rattle.board.specs.Table.{at, listedAt}
 use Rattle.board.specs.Round.{round, nextListed, distance, reached}
