@@ -30,6 +30,7 @@ looks : (p : ℕ → Bool) (k a : ℕ) → firstOr 0 p (round k a) ≡ firstOr (
 unfolding round
 looks p k a = first-append 0 p (upFrom (a + 1) (k - a)) (upFrom 1 (min a k))
 
+-- what the code gives: the first after a, and where that is 0 the first from 1 on
 pub next-after : (t : List Node) (k a top last r : ℕ) → top ≡ min k 40 → last ≡ min a top → r ≡ firstOr 0 (listedAt t) (upFrom (last + 1) (top - last)) → 0 < r → r ≡ nextListed t k a
 unfolding nextListed
 next-after t k a top last r et el er h = rw (← et) (er ∙ first-found _ (listedAt t) _ (omega (arith, er)) ∙ ap (firstOr _ (listedAt t)) (rest top a last el) ∙ sym (looks (listedAt t) top a))
@@ -55,7 +56,7 @@ by-side P a p f g = go (ltb a p) refl
     go true e = f (ltb-true a p e)
     go false e = g (ltb-false a p e)
 
--- a position from 1 to k is at most k away, and at least 1
+-- a position is at least 1 away, and one from 1 to k at most k
 pub distance-least : (k a p : ℕ) → 1 ≤ p → 1 ≤ distance k a p
 distance-least k a p h = by-side _ a p (λ l. omega (arith, ahead k a p l)) (λ l. omega (arith, behind k a p l))
 
@@ -69,11 +70,14 @@ pub record Nearest (p : ℕ → Bool) (k a r : ℕ) : Type 0 where
   pub passes : p r ≡ true
   pub nearer : (q : ℕ) → 1 ≤ q → q ≤ k → distance k a q < distance k a r → p q ≡ false
 
--- looking round gives 0 and none from 1 to k passes, or it gives the nearest that does
-round-case : (p : ℕ → Bool) (k a : ℕ) → ((None p 1 k) × (firstOr 0 p (round k a) ≡ 0)) ⊎ Nearest p k a (firstOr 0 p (round k a))
+-- none from 1 to k passes, and 0 is given; or the nearest that passes is
+abbrev pub NearestCase : (ℕ → Bool) → ℕ → ℕ → ℕ → Type 0
+NearestCase p k a r = ((None p 1 k) × (r ≡ 0)) ⊎ Nearest p k a r
+
+round-case : (p : ℕ → Bool) (k a : ℕ) → NearestCase p k a (firstOr 0 p (round k a))
 round-case p k a = rw (looks p k a) (go (firstOr 0 p (upFrom 1 (min a k))) (first-case 0 p 1 (min a k)) (first-case _ p (a + 1) (k - a)))
   where
-    go : (s : ℕ) → FirstCase 0 p 1 (min a k) s → FirstCase s p (a + 1) (k - a) (firstOr s p (upFrom (a + 1) (k - a))) → ((None p 1 k) × (firstOr s p (upFrom (a + 1) (k - a)) ≡ 0)) ⊎ Nearest p k a (firstOr s p (upFrom (a + 1) (k - a)))
+    go : (s : ℕ) → FirstCase 0 p 1 (min a k) s → FirstCase s p (a + 1) (k - a) (firstOr s p (upFrom (a + 1) (k - a))) → NearestCase p k a (firstOr s p (upFrom (a + 1) (k - a)))
     go s low (inr f) =
         inr
         (record {
@@ -98,7 +102,7 @@ round-case p k a = rw (looks p k a) (go (firstOr 0 p (upFrom 1 (min a k))) (firs
         }))
 
 -- the next listed position is 0 and nobody from 1 to k is listed; or it is listed, within 1 to k, and nobody listed is nearer
-pub next-case : (t : List Node) (k a : ℕ) → k ≤ 40 → ((None (listedAt t) 1 k) × (nextListed t k a ≡ 0)) ⊎ Nearest (listedAt t) k a (nextListed t k a)
+pub next-case : (t : List Node) (k a : ℕ) → k ≤ 40 → NearestCase (listedAt t) k a (nextListed t k a)
 unfolding nextListed
 next-case t k a h = rw (let e : min k 40 ≡ k = omega arith in e) (round-case (listedAt t) k a)
 
@@ -106,7 +110,7 @@ next-case t k a h = rw (let e : min k 40 ≡ k = omega arith in e) (round-case (
 pub next-nearest : (t : List Node) (k a p : ℕ) → k ≤ 40 → listedAt t p ≡ true → 1 ≤ p → p ≤ k → Nearest (listedAt t) k a (nextListed t k a)
 next-nearest t k a p h e l m = go (next-case t k a h)
   where
-    go : ((None (listedAt t) 1 k) × (nextListed t k a ≡ 0)) ⊎ Nearest (listedAt t) k a (nextListed t k a) → Nearest (listedAt t) k a (nextListed t k a)
+    go : NearestCase (listedAt t) k a (nextListed t k a) → Nearest (listedAt t) k a (nextListed t k a)
     go (inl (none, zeroed)) = absurd (false≢true (sym (none p l (omega arith)) ∙ e))
     go (inr f) = f
 
@@ -126,7 +130,7 @@ closer k a r p h l m n d ne = by-side _ a p (λ x. by-side _ a r (λ y. one x y)
     four : p ≤ a → r ≤ a → distance k r p < distance k a p
     four x y = omega (arith, behind k a p x, ahead k r p (omega (arith, ne, behind k a p x, behind k a r y)))
 
--- each step to the next listed position either names p or comes nearer to it, so nobody is named twice before p is
+-- the step to the next listed position names p or comes at least one nearer to it, so that before p none is named twice
 pub next-closer : (t : List Node) (k a p : ℕ) → k ≤ 40 → listedAt t p ≡ true → 1 ≤ p → p ≤ k → (p ≡ nextListed t k a → ⊥) → distance k (nextListed t k a) p < distance k a p
 next-closer t k a p h e l m ne = closer k a (nextListed t k a) p (near .from) (near .within) l m not-nearer ne
   where

@@ -1,4 +1,4 @@
--- What a step does to one board's record, and to the table at one position (01, "Steps").
+-- What a step does to one board's record, and to every record (01, "Steps").
 use Prim.Native.Nat.{ℕ, _+_, min}
 use mathlib.Core.List.{List, map}
 use Rattle.ground.specs.Choose.{choose}
