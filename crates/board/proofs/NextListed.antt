@@ -12,7 +12,7 @@ use Rattle.ground.specs.Below.{upFrom, firstOr}
 use Rattle.ground.proofs.Choices.{choose-yes, choose-no}
 use Rattle.ground.proofs.Firsts.{FirstCase, None, first-case, first-append, first-found, first-else}
 use Rattle.board.specs.declared.Node.{Node}
-use Rattle.board.specs.Table.{at, listedAt}
+use Rattle.board.specs.Table.{listedAt}
 use Rattle.board.specs.Round.{round, nextListed, distance, reached}
 use Rattle.board.proofs.LowestWanted.{listed-zero}
 
@@ -130,7 +130,7 @@ closer k a r p h l m n d ne = by-side _ a p (λ x. by-side _ a r (λ y. one x y)
     four : p ≤ a → r ≤ a → distance k r p < distance k a p
     four x y = omega (arith, behind k a p x, ahead k r p (omega (arith, ne, behind k a p x, behind k a r y)))
 
--- the step to the next listed position names p or comes at least one nearer to it, so that before p none is named twice
+-- the step to the next listed position names p or comes at least one nearer to it
 pub next-closer : (t : List Node) (k a p : ℕ) → k ≤ 40 → listedAt t p ≡ true → 1 ≤ p → p ≤ k → (p ≡ nextListed t k a → ⊥) → distance k (nextListed t k a) p < distance k a p
 next-closer t k a p h e l m ne = closer k a (nextListed t k a) p (near .from) (near .within) l m not-nearer ne
   where
@@ -144,19 +144,29 @@ next-closer t k a p h e l m ne = closer k a (nextListed t k a) p (near .from) (n
 abbrev pub Named : List Node → ℕ → ℕ → ℕ → ℕ → Type 0
 Named t k n a p = (i : ℕ) × (1 ≤ i) × (i ≤ n) × (reached t k i a ≡ p)
 
--- a listed position is named within as many steps as it is away
-pub named-within : (t : List Node) (k p : ℕ) → k ≤ 40 → listedAt t p ≡ true → 1 ≤ p → p ≤ k → (n a : ℕ) → distance k a p ≤ n → Named t k n a p
+-- n steps name p, or come at least n nearer to it
+pub named-or-nearer : (t : List Node) (k p : ℕ) → k ≤ 40 → listedAt t p ≡ true → 1 ≤ p → p ≤ k → (n a : ℕ) → Named t k n a p ⊎ (distance k (reached t k n a) p + n ≤ distance k a p)
 unfolding reached
-named-within t k p h e l m zero a d = absurd (let z : ⊥ = omega (arith, distance-least k a p l) in z)
-named-within t k p h e l m (suc n) a d = go (λ b f. named-within t k p h e l m n b f) (ℕ-discrete p (nextListed t k a))
+named-or-nearer t k p h e l m zero a = inr (omega arith)
+named-or-nearer t k p h e l m (suc n) a = go (named-or-nearer t k p h e l m n (nextListed t k a)) (ℕ-discrete p (nextListed t k a))
   where
-    further : Named t k n (nextListed t k a) p → Named t k (suc n) a p
-    further (i, from, within, at) = (suc i, omega arith, omega arith, at)
+    go : Named t k n (nextListed t k a) p ⊎ (distance k (reached t k n (nextListed t k a)) p + n ≤ distance k (nextListed t k a) p) → Dec (p ≡ nextListed t k a) → Named t k (suc n) a p ⊎ (distance k (reached t k n (nextListed t k a)) p + suc n ≤ distance k a p)
+    go r (yes q) = inl (1, omega arith, omega arith, sym q)
+    go (inl (i, from, within, there)) (no ne) = inl (suc i, omega arith, omega arith, there)
+    go (inr d) (no ne) = inr (omega (arith, next-closer t k a p h e l m ne))
 
-    go : ((b : ℕ) → distance k b p ≤ n → Named t k n b p) → Dec (p ≡ nextListed t k a) → Named t k (suc n) a p
-    go r (yes q) = (1, omega arith, omega arith, sym q)
-    go r (no ne) = further (r (nextListed t k a) (omega (arith, next-closer t k a p h e l m ne)))
+-- each listed position is named by one of any k steps one after another
+pub named-in-round : (t : List Node) (k p : ℕ) → k ≤ 40 → listedAt t p ≡ true → 1 ≤ p → p ≤ k → (a : ℕ) → Named t k k a p
+named-in-round t k p h e l m a = go (named-or-nearer t k p h e l m k a)
+  where
+    go : Named t k k a p ⊎ (distance k (reached t k k a) p + k ≤ distance k a p) → Named t k k a p
+    go (inl named) = named
+    go (inr d) = absurd (let z : ⊥ = omega (arith, distance-least k (reached t k k a) p l, distance-most k a p l m) in z)
 
--- so each listed position is named by one of any k steps one after another
-pub named-in-round : (t : List Node) (k a p : ℕ) → k ≤ 40 → listedAt t p ≡ true → 1 ≤ p → p ≤ k → Named t k k a p
-named-in-round t k a p h e l m = named-within t k p h e l m k a (distance-most k a p l m)
+-- steps that come back to where they began have named each listed position: none is repeated before all had their turn
+pub named-before-repeat : (t : List Node) (k p : ℕ) → k ≤ 40 → listedAt t p ≡ true → 1 ≤ p → p ≤ k → (n a : ℕ) → 1 ≤ n → reached t k n a ≡ a → Named t k n a p
+named-before-repeat t k p h e l m n a some back = go (named-or-nearer t k p h e l m n a)
+  where
+    go : Named t k n a p ⊎ (distance k (reached t k n a) p + n ≤ distance k a p) → Named t k n a p
+    go (inl named) = named
+    go (inr d) = absurd (let z : ⊥ = omega (arith, ap (λ (b : ℕ). distance k b p) back) in z)
