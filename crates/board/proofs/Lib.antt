@@ -1,1 +1,6 @@
 pub mod Positions
+pub mod LowestWanted
+pub mod Index
+pub mod NextListed
+pub mod Changes
+pub mod Unique
