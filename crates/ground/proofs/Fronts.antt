@@ -3,9 +3,9 @@ use Prim.Native.Nat.{ℕ, zero, suc, _+_, _-_, _≤_, _<_}
 use native.Mathlib.Omega.{arith}
 use native.Mathlib.Numerals.{add-one}
 use mathlib.Core.Path.{_≡_, refl, ap, _∙_}
-use mathlib.Core.List.{List, [], _∷_, _++_}
-use lib.ListN.{length, getD, set, take, drop}
-use lib.Seq.{take-length}
+use mathlib.Core.List.{List, [], _∷_, _++_, map, append-nil}
+use lib.ListN.{length, getD, set, take, drop, length-map, drop-of-length-le, List·getD-map}
+use lib.Seq.{take-length, take-all}
 use borrow.Author.Needs.{needs}
 
 pub front-none : (f o : List ℕ) → o ≡ take 0 f ++ drop 0 o
@@ -25,3 +25,11 @@ front-end f o u i e h k = e ∙ rw (let q : i ≡ length f = omega arith in q) (
 
 -- what closes each need of such a loop
 pub ruleset fronts = (needs, front-none, front-step, front-end)
+
+-- a loop that writes what f makes of each element of a list over a list as long
+module _ {A : Type 0} (f : A → ℕ) where
+  pub made-step : (l : List A) (d : A) (o u : List ℕ) (i n : ℕ) → f d ≡ 0 → u ≡ take i (map f l) ++ drop i o → length l ≡ n → length o ≡ n → i < n → set u i (f (getD l i d)) ≡ take (i + 1) (map f l) ++ drop (i + 1) o
+  made-step l d o u i n z e a b h = rw (← List·getD-map f l i d, z) (front-step (map f l) o u i e (rw length-map (omega arith)) (rw length-map (omega arith)))
+
+  pub made-end : (l : List A) (o u : List ℕ) (i n : ℕ) → u ≡ take i (map f l) ++ drop i o → length l ≡ n → length o ≡ n → n ≤ i → u ≡ map f l
+  made-end l o u i n e a b h = e ∙ rw (take-all i (map f l) (rw length-map (omega arith)), drop-of-length-le o {i = i} (omega arith), append-nil) refl

@@ -1,0 +1,2 @@
+pub mod Addresses
+pub mod Unique
