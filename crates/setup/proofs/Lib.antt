@@ -1,2 +1,4 @@
+pub mod Tables
+pub mod Pools
 pub mod Addresses
 pub mod Unique
