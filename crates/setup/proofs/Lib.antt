@@ -1,3 +1,4 @@
+pub mod Apart
 pub mod Tables
 pub mod Pools
 pub mod Addresses

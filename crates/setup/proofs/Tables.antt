@@ -1,35 +1,23 @@
 -- The test of a table decides what it should.
-use Prim.Native.Nat.{ℕ, zero, suc, _+_, _-_, _≤_, _<_, _^_}
+use Prim.Native.Nat.{ℕ, _+_, _-_, _≤_, _<_}
 use native.Mathlib.Omega.{arith}
 use native.Mathlib.Decide.{ℕ-discrete}
 use mathlib.Core.Path.{_≡_, refl, sym, ap, _∙_}
 use mathlib.Core.Logic.{_⊎_, inl, inr}
-use mathlib.Core.Bool.{Bool, true, false, _&&_, _||_, not, false≢true}
+use mathlib.Core.Bool.{Bool, true, false, _&&_, _||_, not}
 use mathlib.Core.List.{List, map}
 use lib.Dec.{eqb, leb, ltb}
 use lib.ListN.{getD, length, length-map, List·getD-map}
 use borrow.Author.Tests.{ltb-true, ltb-false, leb-true, leb-false, eqb-true, eqb-false, not-true, lt-ltb, le-leb, eq-eqb, ne-eqb}
-use Rattle.ground.specs.Below.{all}
-use Rattle.ground.proofs.Choices.{and-left, and-right, both}
+use Rattle.ground.proofs.Choices.{and-left, and-right, both, or-left, or-right, either, not-yes}
 use Rattle.ground.proofs.Loops.{all-at, all-of}
 use Rattle.board.specs.declared.Node.{Node}
 use Rattle.board.specs.Node.{none, isBlank, isMac, isKind, inRange}
 use Rattle.board.specs.Table.{at}
 use Rattle.board.proofs.Positions.{at-position, at-zero, at-past}
 use Rattle.setup.specs.Fit.{recordFits, recordsFit, apartFrom, areApart, macOf, tableFits}
-use Rattle.setup.specs.Fitness.{Mac, Listed, InRanges, FitTable}
+use Rattle.setup.specs.Fitness.{Listed, InRanges, FitTable}
 use Rattle.setup.proofs.Pools.{mac-told, mac-passes}
-
-either : (a b : Bool) → (a || b) ≡ true → (a ≡ true) ⊎ (b ≡ true)
-either true b h = inl refl
-either false b h = inr h
-
-or-left : (a b : Bool) → a ≡ true → (a || b) ≡ true
-or-left a b h = rw h refl
-
-or-right : (a b : Bool) → b ≡ true → (a || b) ≡ true
-or-right true b h = refl
-or-right false b h = h
 
 -- one record
 
@@ -66,9 +54,6 @@ ranges-told n h =
 
     h3 : isKind (n .kind) ≡ true
     h3 = and-left (isKind (n .kind)) (isMac (n .mac)) h2
-
-not-yes : (b : Bool) → b ≡ false → not b ≡ true
-not-yes b h = rw h refl
 
 ranges-pass : (n : Node) → InRanges n → inRange n ≡ true
 ranges-pass n f = both _ _ (both _ _ (both _ _ (both _ _ (not-yes _ (ne-eqb (n .kind) 0 (f .listed))) (not-yes _ (ne-eqb (n .kind) 165 (f .kind)))) (mac-passes (n .mac) (f .mac))) (le-leb (n .misses) 2 (f .misses))) (le-leb (n .owed) 1 (f .owed))
@@ -128,8 +113,7 @@ unfolding tableFits
 table-told k t e h =
     record {
       forty = e;
-      from = λ p l. inside t p e l .0;
-      upTo = λ p l. omega (arith, fits p l .0, inside t p e l .0);
+      within = λ p l. record { from = inside t p e l .0; upTo = omega (arith, fits p l .0, inside t p e l .0) };
       ranges = λ p l. fits p l .1;
       apart = λ p q lp lq ne. different (ltb p q) p q refl lp lq ne;
       blank = blanks;
@@ -165,7 +149,7 @@ record-passes k t f i = go (ℕ-discrete (at t (i + 1) .kind) 0)
   where
     go : Dec (at t (i + 1) .kind ≡ 0) → recordFits k i (at t (i + 1)) ≡ true
     go (yes e) = rw (f .blank (i + 1) e) (or-right (ltb i k && inRange none) (isBlank none) refl)
-    go (no ne) = or-left (ltb i k && inRange (at t (i + 1))) (isBlank (at t (i + 1))) (both (ltb i k) (inRange (at t (i + 1))) (lt-ltb i k (omega (arith, f .upTo (i + 1) ne))) (ranges-pass (at t (i + 1)) (f .ranges (i + 1) ne)))
+    go (no ne) = or-left (ltb i k && inRange (at t (i + 1))) (isBlank (at t (i + 1))) (both (ltb i k) (inRange (at t (i + 1))) (lt-ltb i k (omega (arith, f .within (i + 1) ne .upTo))) (ranges-pass (at t (i + 1)) (f .ranges (i + 1) ne)))
 
 pair-passes : (m n : ℕ) → ((m ≡ 0 → ⊥) → m ≡ n → ⊥) → (eqb m 0 || not (eqb m n)) ≡ true
 pair-passes m n h = go (ℕ-discrete m 0)

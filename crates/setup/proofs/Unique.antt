@@ -4,7 +4,6 @@ use mathlib.Core.Path.{_≡_, refl, sym, ap, _∙_}
 use mathlib.Core.Bool.{Bool}
 use mathlib.Core.List.{List}
 use base.Fml.{Lft}
-use Rattle.refusal.specs.declared.Refusal.{Refusal}
 use Rattle.refusal.specs.Refusal.{Told}
 use Rattle.refusal.proofs.Numbers.{same-refused, not-zero}
 use Rattle.setup.specs.declared.Judged.{Judged}

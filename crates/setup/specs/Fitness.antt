@@ -26,6 +26,11 @@ pub record FitSetup (s : Setup) : Type 0 where
   pub pool : Pool (s .k) (s .pool)
   pub mac : Mac (s .mac)
 
+-- p is one of the positions 1 to k (01, "Position i, from 1 to k")
+pub record Position (k p : ℕ) : Type 0 where
+  pub from : 1 ≤ p
+  pub upTo : p ≤ k
+
 -- a board is listed at position p (01, "An unlisted record has type 0")
 abbrev pub Listed : List Node → ℕ → Type 0
 Listed t p = at t p .kind ≡ 0 → ⊥
@@ -41,8 +46,7 @@ pub record InRanges (n : Node) : Type 0 where
 -- the table is fit among k positions (01, "Fit": "forty records, listed records within 1 to k and the ranges, with different MACs, others all zeros")
 pub record FitTable (k : ℕ) (t : List Node) : Type 0 where
   pub forty : length t ≡ 40
-  pub from : (p : ℕ) → Listed t p → 1 ≤ p
-  pub upTo : (p : ℕ) → Listed t p → p ≤ k
+  pub within : (p : ℕ) → Listed t p → Position k p
   pub ranges : (p : ℕ) → Listed t p → InRanges (at t p)
   pub apart : (p q : ℕ) → Listed t p → Listed t q → (p ≡ q → ⊥) → at t p .mac ≡ at t q .mac → ⊥
   pub blank : (p : ℕ) → at t p .kind ≡ 0 → at t p ≡ none

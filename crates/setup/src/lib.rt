@@ -216,10 +216,10 @@ fn macs_of(table: Table) -> [u64; 40]
     ensures { λ r. ⌜ r ≡ map macOf (table .nodes) ⌝ }
 {
     let mut macs = [0u64; 40];
-    let mut i: usize = 0;
-    while i < 40 {
-        macs[i] = table.nodes[i].mac;
-        i += 1;
+    let mut j: usize = 0;
+    while j < 40 {
+        macs[j] = table.nodes[j].mac;
+        j += 1;
     }
     macs
 }

@@ -1,3 +1,4 @@
+-- `setup::address_at` meets its contract: in each branch the position is told, and the laws of `address` do the rest.
 use native.Mathlib.Omega.{arith}
 use mathlib.Core.Path.{sym}
 use Rattle.setup.proofs.Addresses.{address-in, address-zero, address-past}

@@ -1,3 +1,4 @@
+-- `setup::apart_from_lower` meets its contract: ok says that the MACs passed are different ones.
 use Prim.Native.Nat.{_-_, _≤_}
 use mathlib.Core.Path.{_≡_}
 use Rattle.ground.proofs.Loops.{loops}

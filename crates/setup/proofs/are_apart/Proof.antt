@@ -1,3 +1,4 @@
+-- `setup::are_apart` meets its contract: ok says that those passed differ from each before them.
 use Prim.Native.Nat.{_-_, _≤_}
 use mathlib.Core.Path.{_≡_}
 use lib.ListN.{length}

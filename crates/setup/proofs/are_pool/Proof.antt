@@ -1,3 +1,4 @@
+-- `setup::are_pool` meets its contract: what the tests and the two loops say.
 use borrow.Author.Tests.{lt-ltb, le-leb}
 use Rattle.ground.proofs.Choices.{tests}
 use Rattle.setup.specs.Setup.{arePool}

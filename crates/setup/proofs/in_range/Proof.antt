@@ -1,3 +1,4 @@
+-- `setup::in_range` meets its contract: the tests are those of the definition.
 use borrow.Author.Needs.{needs}
 use Rattle.setup.proofs.in_range.Statement.{statement}
 use Rattle.setup.proofs.in_range.Tie as tie

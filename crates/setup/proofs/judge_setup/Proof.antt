@@ -1,3 +1,4 @@
+-- `setup::judge_setup` meets its contract: the two tests in the order of the rules.
 use mathlib.Core.Path.{refl, ap}
 use mathlib.Core.Bool.{not}
 use Rattle.ground.proofs.Choices.{yes, no}

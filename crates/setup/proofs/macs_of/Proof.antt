@@ -1,3 +1,4 @@
+-- `setup::macs_of` meets its contract: the MACs passed are written, the rest is as at the start.
 use Prim.Native.Nat.{_-_, _≤_}
 use mathlib.Core.Path.{_≡_, refl}
 use mathlib.Core.List.{_++_, map}
@@ -30,8 +31,8 @@ mul-macs-2 c = search needs
 array-write-macs : tie.Need-array-write-macs Inv-loop μ-loop
 array-write-macs c = search needs
 
-add-i : tie.Need-add-i Inv-loop μ-loop
-add-i c = search needs
+add-j : tie.Need-add-j Inv-loop μ-loop
+add-j c = search needs
 
 loop-less : tie.Need-loop-less Inv-loop μ-loop
 loop-less c = search needs
@@ -53,7 +54,7 @@ macs-of-spec =
     element-copy-out-macs
     mul-macs-2
     array-write-macs
-    add-i
+    add-j
     loop-less
     loop-again
     returns)

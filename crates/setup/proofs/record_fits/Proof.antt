@@ -1,3 +1,4 @@
+-- `setup::record_fits` meets its contract: the tests are those of the definition.
 use Rattle.setup.specs.Fit.{recordFits}
 use borrow.Author.Needs.{needs}
 use Rattle.setup.proofs.record_fits.Statement.{statement}

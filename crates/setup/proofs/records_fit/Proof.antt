@@ -1,3 +1,4 @@
+-- `setup::records_fit` meets its contract: ok says that the records passed are fit.
 use Prim.Native.Nat.{_-_, _≤_}
 use mathlib.Core.Path.{_≡_}
 use Rattle.ground.proofs.Loops.{loops}

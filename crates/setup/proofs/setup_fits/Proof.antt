@@ -1,3 +1,4 @@
+-- `setup::setup_fits` meets its contract: what the pool's and the MAC's tests say.
 use native.Mathlib.Omega.{arith}
 use mathlib.Core.Path.{_≡_}
 use lib.ListN.{length}

@@ -1,6 +1,6 @@
+-- `setup::shipped_pool` meets its contract: the literal is the list, by computation.
 use mathlib.Core.Path.{refl}
 use Rattle.ground.specs.Below.{upFrom}
-use borrow.Author.Needs.{needs}
 use Rattle.setup.proofs.shipped_pool.Statement.{statement}
 use Rattle.setup.proofs.shipped_pool.Tie as tie
 

@@ -1,3 +1,4 @@
+-- `setup::table_fits` meets its contract: what the records' and the MACs' tests say.
 use Rattle.setup.specs.Fit.{tableFits}
 use borrow.Author.Needs.{needs}
 use Rattle.setup.proofs.table_fits.Statement.{statement}
