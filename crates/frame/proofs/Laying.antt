@@ -7,7 +7,7 @@ use mathlib.Core.List.{List, [], _∷_, _++_}
 use lib.ListN.{length, take, drop, length-append}
 use lib.Seq.{paste, take-length}
 use Rattle.ground.specs.Bytes.{laid}
-use Rattle.ground.proofs.Fronts.{laid-more, taken-laid}
+use Rattle.ground.proofs.Laid.{laid-more, taken-laid}
 use Rattle.fletcher.specs.Fletcher.{checkBytes}
 
 laid-first : (a o : List ℕ) → paste o 0 a (length a) ≡ laid a o

@@ -1,35 +1,35 @@
--- Loops that copy a list over a part of another, and lists laid at a front.
+-- A loop that copies a list to the front of another.
 use Prim.Native.Nat.{ℕ, zero, suc, _+_, _-_, _≤_, _<_}
 use native.Mathlib.Omega.{arith}
 use native.Mathlib.Numerals.{add-one}
-use mathlib.Core.Path.{_≡_, refl, sym, ap, _∙_}
-use mathlib.Core.List.{List, [], _∷_, _++_}
-use lib.ListN.{length, getD, set, take, drop, length-append}
-use lib.Seq.{paste, paste-zero, paste-suc, take-length, take-at, drop-append-add, drop-drop}
+use mathlib.Core.Path.{_≡_, refl, ap, _∙_}
+use mathlib.Core.List.{List, [], _∷_, _++_, map, append-nil}
+use lib.ListN.{length, getD, set, take, drop, length-map, drop-of-length-le, List·getD-map}
+use lib.Seq.{take-length, take-all}
 use borrow.Author.Needs.{needs}
-use Rattle.ground.specs.Bytes.{laid}
 
-pub paste-none : (d : List ℕ) (at : ℕ) (s : List ℕ) → d ≡ paste d at s 0
-paste-none d at s = paste-zero d at s
+pub front-none : (f o : List ℕ) → o ≡ take 0 f ++ drop 0 o
+front-none f o = refl
 
-pub paste-step : (d u : List ℕ) (at : ℕ) (s : List ℕ) (i : ℕ) → u ≡ paste d at s i → at + length s ≤ length d → i < length s → set u (at + i) (getD s i 0) ≡ paste d at s (i + 1)
-paste-step d u at s i e h l = rw (e, add-one) (paste-suc d at s i 0 (omega arith) l)
+front : (f o : List ℕ) (i : ℕ) → i < length f → length f ≤ length o → set (take i f ++ drop i o) i (getD f i 0) ≡ take (suc i) f ++ drop (suc i) o
+front [] o i h k = absurd (let z : ⊥ = omega arith in z)
+front (x ∷ f) [] i h k = absurd (let z : ⊥ = omega arith in z)
+front (x ∷ f) (y ∷ o) zero h k = refl
+front (x ∷ f) (y ∷ o) (suc i) h k = ap (λ (l : List ℕ). x ∷ l) (front f o i (omega arith) (omega arith))
 
-pub paste-end : (d u : List ℕ) (at : ℕ) (s : List ℕ) (i : ℕ) → u ≡ paste d at s i → i ≤ length s → length s ≤ i → u ≡ paste d at s (length s)
-paste-end d u at s i e h l = rw e (rw (let q : i ≡ length s = omega arith in q) refl)
+pub front-step : (f o u : List ℕ) (i : ℕ) → u ≡ take i f ++ drop i o → i < length f → length f ≤ length o → set u i (getD f i 0) ≡ take (i + 1) f ++ drop (i + 1) o
+front-step f o u i e h k = rw (e, add-one) (front f o i h k)
 
--- what closes each need of a loop that copies s over d from `at` on
-pub ruleset pastes = (needs, paste-none, paste-step, paste-end)
+pub front-end : (f o u : List ℕ) (i : ℕ) → u ≡ take i f ++ drop i o → i ≤ length f → length f ≤ i → u ≡ f ++ drop (length f) o
+front-end f o u i e h k = e ∙ rw (let q : i ≡ length f = omega arith in q) (rw (take-length f) refl)
 
--- nothing laid at the front leaves all as it was
-pub laid-none : (o : List ℕ) → o ≡ laid [] o
-laid-none o = refl
+-- what closes each need of such a loop
+pub ruleset fronts = (needs, front-none, front-step, front-end)
 
--- what is pasted right after what was laid is laid with it
-pub laid-more : (a b o : List ℕ) → length a + length b ≤ length o → paste (laid a o) (length a) b (length b) ≡ laid (a ++ b) o
-laid-more a b o h =
-    rw (take-at a (drop (length a) o) (length a) refl, take-length b, drop-append-add a (drop (length a) o) (length b), drop-drop (length b) (length a) o, length-append a b)
+-- a loop that writes what f makes of each element of a list over a list as long
+module _ {A : Type 0} (f : A → ℕ) where
+  pub made-step : (l : List A) (d : A) (o u : List ℕ) (i n : ℕ) → f d ≡ 0 → u ≡ take i (map f l) ++ drop i o → length l ≡ n → length o ≡ n → i < n → set u i (f (getD l i d)) ≡ take (i + 1) (map f l) ++ drop (i + 1) o
+  made-step l d o u i n z e a b h = rw (← List·getD-map f l i d, z) (front-step (map f l) o u i e (rw length-map (omega arith)) (rw length-map (omega arith)))
 
--- the front of what was laid
-pub taken-laid : (a o : List ℕ) → take (length a) (laid a o) ≡ a
-taken-laid a o = take-at a (drop (length a) o) (length a) refl
+  pub made-end : (l : List A) (o u : List ℕ) (i n : ℕ) → u ≡ take i (map f l) ++ drop i o → length l ≡ n → length o ≡ n → n ≤ i → u ≡ map f l
+  made-end l o u i n e a b h = e ∙ rw (take-all i (map f l) (rw length-map (omega arith)), drop-of-length-le o {i = i} (omega arith), append-nil) refl

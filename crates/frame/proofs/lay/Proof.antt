@@ -3,7 +3,7 @@ use Prim.Native.Nat.{_-_, _≤_}
 use mathlib.Core.Path.{_≡_}
 use lib.ListN.{length}
 use lib.Seq.{paste}
-use Rattle.ground.proofs.Fronts.{pastes}
+use Rattle.ground.proofs.Laid.{pastes}
 use Rattle.frame.proofs.lay.Statement.{statement}
 use Rattle.frame.proofs.lay.Tie as tie
 

@@ -1,0 +1,35 @@
+-- A loop that copies a list over a part of another, and bytes laid at a front.
+use Prim.Native.Nat.{ℕ, zero, suc, _+_, _-_, _≤_, _<_}
+use native.Mathlib.Omega.{arith}
+use native.Mathlib.Numerals.{add-one}
+use mathlib.Core.Path.{_≡_, refl, sym, ap, _∙_}
+use mathlib.Core.List.{List, [], _∷_, _++_}
+use lib.ListN.{length, getD, set, take, drop, length-append}
+use lib.Seq.{paste, paste-zero, paste-suc, take-length, take-at, drop-append-add, drop-drop}
+use borrow.Author.Needs.{needs}
+use Rattle.ground.specs.Bytes.{laid}
+
+pub paste-none : (d : List ℕ) (at : ℕ) (s : List ℕ) → d ≡ paste d at s 0
+paste-none d at s = paste-zero d at s
+
+pub paste-step : (d u : List ℕ) (at : ℕ) (s : List ℕ) (i : ℕ) → u ≡ paste d at s i → at + length s ≤ length d → i < length s → set u (at + i) (getD s i 0) ≡ paste d at s (i + 1)
+paste-step d u at s i e h l = rw (e, add-one) (paste-suc d at s i 0 (omega arith) l)
+
+pub paste-end : (d u : List ℕ) (at : ℕ) (s : List ℕ) (i : ℕ) → u ≡ paste d at s i → i ≤ length s → length s ≤ i → u ≡ paste d at s (length s)
+paste-end d u at s i e h l = rw e (rw (let q : i ≡ length s = omega arith in q) refl)
+
+-- what closes each need of a loop that copies s over d from `at` on
+pub ruleset pastes = (needs, paste-none, paste-step, paste-end)
+
+-- nothing laid at the front leaves all as it was
+pub laid-none : (o : List ℕ) → o ≡ laid [] o
+laid-none o = refl
+
+-- what is pasted right after what was laid is laid with it
+pub laid-more : (a b o : List ℕ) → length a + length b ≤ length o → paste (laid a o) (length a) b (length b) ≡ laid (a ++ b) o
+laid-more a b o h =
+    rw (take-at a (drop (length a) o) (length a) refl, take-length b, drop-append-add a (drop (length a) o) (length b), drop-drop (length b) (length a) o, length-append a b)
+
+-- the front of what was laid
+pub taken-laid : (a o : List ℕ) → take (length a) (laid a o) ≡ a
+taken-laid a o = take-at a (drop (length a) o) (length a) refl

@@ -1,0 +1,5 @@
+pub mod Apart
+pub mod Tables
+pub mod Pools
+pub mod Addresses
+pub mod Unique

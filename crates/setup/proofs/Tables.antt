@@ -1,0 +1,166 @@
+-- The test of a table decides what it should.
+use Prim.Native.Nat.{ℕ, _+_, _-_, _≤_, _<_}
+use native.Mathlib.Omega.{arith}
+use native.Mathlib.Decide.{ℕ-discrete}
+use mathlib.Core.Path.{_≡_, refl, sym, ap, _∙_}
+use mathlib.Core.Logic.{_⊎_, inl, inr}
+use mathlib.Core.Bool.{Bool, true, false, _&&_, _||_, not}
+use mathlib.Core.List.{List, map}
+use lib.Dec.{eqb, leb, ltb}
+use lib.ListN.{getD, length, length-map, List·getD-map}
+use borrow.Author.Tests.{ltb-true, ltb-false, leb-true, leb-false, eqb-true, eqb-false, not-true, lt-ltb, le-leb, eq-eqb, ne-eqb}
+use Rattle.ground.proofs.Choices.{and-left, and-right, both, or-left, or-right, either, not-yes}
+use Rattle.ground.proofs.Loops.{all-at, all-of}
+use Rattle.board.specs.declared.Node.{Node}
+use Rattle.board.specs.Node.{none, isBlank, isMac, isKind, inRange}
+use Rattle.board.specs.Table.{at}
+use Rattle.board.proofs.Positions.{at-position, at-zero, at-past}
+use Rattle.setup.specs.Fit.{recordFits, recordsFit, apartFrom, areApart, macOf, tableFits}
+use Rattle.setup.specs.Fitness.{Listed, InRanges, FitTable}
+use Rattle.setup.proofs.Pools.{mac-told, mac-passes}
+
+-- one record
+
+zeros : (k m s i o : ℕ) → k ≡ 0 → m ≡ 0 → s ≡ 0 → i ≡ 0 → o ≡ 0 → _≡_ {A = Node} (record { kind = k; mac = m; session = s; misses = i; owed = o }) none
+zeros k m s i o a b c d e = rw (a, b, c, d, e) refl
+
+blank-told : (n : Node) → isBlank n ≡ true → n ≡ none
+blank-told n h = zeros (n .kind) (n .mac) (n .session) (n .misses) (n .owed) (eqb-true (n .kind) 0 (and-left _ _ h3)) (eqb-true (n .mac) 0 (and-right (eqb (n .kind) 0) _ h3)) (eqb-true (n .session) 0 (and-right (eqb (n .kind) 0 && eqb (n .mac) 0) _ h2)) (eqb-true (n .misses) 0 (and-right (eqb (n .kind) 0 && eqb (n .mac) 0 && eqb (n .session) 0) _ h1)) (eqb-true (n .owed) 0 (and-right (eqb (n .kind) 0 && eqb (n .mac) 0 && eqb (n .session) 0 && eqb (n .misses) 0) _ h))
+  where
+    h1 : (eqb (n .kind) 0 && eqb (n .mac) 0 && eqb (n .session) 0 && eqb (n .misses) 0) ≡ true
+    h1 = and-left _ (eqb (n .owed) 0) h
+
+    h2 : (eqb (n .kind) 0 && eqb (n .mac) 0 && eqb (n .session) 0) ≡ true
+    h2 = and-left _ (eqb (n .misses) 0) h1
+
+    h3 : (eqb (n .kind) 0 && eqb (n .mac) 0) ≡ true
+    h3 = and-left _ (eqb (n .session) 0) h2
+
+ranges-told : (n : Node) → inRange n ≡ true → InRanges n
+ranges-told n h =
+    record {
+      listed = eqb-false (n .kind) 0 (not-true (eqb (n .kind) 0) (and-left (not (eqb (n .kind) 0)) (not (eqb (n .kind) 165)) h3));
+      kind = eqb-false (n .kind) 165 (not-true (eqb (n .kind) 165) (and-right (not (eqb (n .kind) 0)) (not (eqb (n .kind) 165)) h3));
+      mac = mac-told (n .mac) (and-right (isKind (n .kind)) (isMac (n .mac)) h2);
+      misses = leb-true (n .misses) 2 (and-right (isKind (n .kind) && isMac (n .mac)) (leb (n .misses) 2) h1);
+      owed = leb-true (n .owed) 1 (and-right (isKind (n .kind) && isMac (n .mac) && leb (n .misses) 2) (leb (n .owed) 1) h);
+    }
+  where
+    h1 : (isKind (n .kind) && isMac (n .mac) && leb (n .misses) 2) ≡ true
+    h1 = and-left (isKind (n .kind) && isMac (n .mac) && leb (n .misses) 2) (leb (n .owed) 1) h
+
+    h2 : (isKind (n .kind) && isMac (n .mac)) ≡ true
+    h2 = and-left (isKind (n .kind) && isMac (n .mac)) (leb (n .misses) 2) h1
+
+    h3 : isKind (n .kind) ≡ true
+    h3 = and-left (isKind (n .kind)) (isMac (n .mac)) h2
+
+ranges-pass : (n : Node) → InRanges n → inRange n ≡ true
+ranges-pass n f = both _ _ (both _ _ (both _ _ (both _ _ (not-yes _ (ne-eqb (n .kind) 0 (f .listed))) (not-yes _ (ne-eqb (n .kind) 165 (f .kind)))) (mac-passes (n .mac) (f .mac))) (le-leb (n .misses) 2 (f .misses))) (le-leb (n .owed) 1 (f .owed))
+
+-- a listed record that is fit is within k and its ranges, an unlisted one is blank
+listed-told : (k i : ℕ) (n : Node) → recordFits k i n ≡ true → (n .kind ≡ 0 → ⊥) → (i < k) × InRanges n
+unfolding recordFits
+listed-told k i n h l = go (either (ltb i k && inRange n) (isBlank n) h)
+  where
+    go : ((ltb i k && inRange n) ≡ true) ⊎ (isBlank n ≡ true) → (i < k) × InRanges n
+    go (inl e) = (ltb-true i k (and-left (ltb i k) (inRange n) e), ranges-told n (and-right (ltb i k) (inRange n) e))
+    go (inr e) = absurd (l (ap (λ (m : Node). m .kind) (blank-told n e)))
+
+free-told : (k i : ℕ) (n : Node) → recordFits k i n ≡ true → n .kind ≡ 0 → n ≡ none
+unfolding recordFits
+free-told k i n h l = go (either (ltb i k && inRange n) (isBlank n) h)
+  where
+    go : ((ltb i k && inRange n) ≡ true) ⊎ (isBlank n ≡ true) → n ≡ none
+    go (inl e) = absurd (ranges-told n (and-right (ltb i k) (inRange n) e) .listed l)
+    go (inr e) = blank-told n e
+
+-- the records by position
+
+index : (t : List Node) (i : ℕ) → at t (i + 1) ≡ getD t i none
+index t i = at-position t (i + 1) (omega arith) ∙ ap (λ (n : ℕ). getD t n none) (let e : i + 1 - 1 ≡ i = omega arith in e)
+
+inside : (t : List Node) (p : ℕ) → length t ≡ 40 → Listed t p → (0 < p) × (p ≤ 40)
+inside t p e l = (above (ltb 0 p) refl, within (leb p 40) refl)
+  where
+    above : (b : Bool) → ltb 0 p ≡ b → 0 < p
+    above true h = ltb-true 0 p h
+    above false h = absurd (l (ap (λ (n : Node). n .kind) (at-zero t p (ltb-false 0 p h))))
+
+    within : (b : Bool) → leb p 40 ≡ b → p ≤ 40
+    within true h = leb-true p 40 h
+    within false h = absurd (l (ap (λ (n : Node). n .kind) (at-past t p 40 e (leb-false p 40 h))))
+
+fit-at : (k : ℕ) (t : List Node) (p : ℕ) → recordsFit k t ≡ true → 0 < p → p ≤ 40 → recordFits k (p - 1) (at t p) ≡ true
+fit-at k t p h a b = rw (at-position t p a) (all-at (λ i. recordFits k i (getD t i none)) 40 (p - 1) h (omega arith))
+
+mac-at : (t : List Node) (i : ℕ) → getD (map macOf t) i 0 ≡ at t (i + 1) .mac
+mac-at t i = List·getD-map macOf t i none ∙ ap macOf (sym (index t i))
+
+mac-of : (t : List Node) (p : ℕ) → 0 < p → getD (map macOf t) (p - 1) 0 ≡ at t p .mac
+mac-of t p h = mac-at t (p - 1) ∙ ap (λ (n : ℕ). at t n .mac) (let e : p - 1 + 1 ≡ p = omega arith in e)
+
+lower-apart : (macs : List ℕ) (i j : ℕ) → areApart macs ≡ true → j < i → i < length macs → 0 < getD macs i 0 → getD macs i 0 ≡ getD macs j 0 → ⊥
+unfolding areApart
+lower-apart macs i j h l m above e = go (either (eqb (getD macs i 0) 0) (not (eqb (getD macs i 0) (getD macs j 0))) (all-at (λ x. eqb (getD macs i 0) 0 || not (eqb (getD macs i 0) (getD macs x 0))) i j (all-at (apartFrom macs) (length macs) i h m) l))
+  where
+    go : (eqb (getD macs i 0) 0 ≡ true) ⊎ (not (eqb (getD macs i 0) (getD macs j 0)) ≡ true) → ⊥
+    go (inl q) = omega (arith, eqb-true (getD macs i 0) 0 q)
+    go (inr q) = eqb-false (getD macs i 0) (getD macs j 0) (not-true (eqb (getD macs i 0) (getD macs j 0)) q) e
+
+pub table-told : (k : ℕ) (t : List Node) → length t ≡ 40 → tableFits k t ≡ true → FitTable k t
+unfolding tableFits
+table-told k t e h =
+    record {
+      forty = e;
+      within = λ p l. record { from = inside t p e l .0; upTo = omega (arith, fits p l .0, inside t p e l .0) };
+      ranges = λ p l. fits p l .1;
+      apart = λ p q lp lq ne. different (ltb p q) p q refl lp lq ne;
+      blank = blanks;
+    }
+  where
+    records : recordsFit k t ≡ true
+    records = and-left (recordsFit k t) (areApart (map macOf t)) h
+
+    macs : areApart (map macOf t) ≡ true
+    macs = and-right (recordsFit k t) (areApart (map macOf t)) h
+
+    fits : (p : ℕ) → Listed t p → (p - 1 < k) × InRanges (at t p)
+    fits p l = listed-told k (p - 1) (at t p) (fit-at k t p records (inside t p e l .0) (inside t p e l .1)) l
+
+    blanks : (p : ℕ) → at t p .kind ≡ 0 → at t p ≡ none
+    blanks p l = go (ltb 0 p) refl (leb p 40) refl
+      where
+        go : (a : Bool) → ltb 0 p ≡ a → (b : Bool) → leb p 40 ≡ b → at t p ≡ none
+        go false a b c = at-zero t p (ltb-false 0 p a)
+        go true a false c = at-past t p 40 e (leb-false p 40 c)
+        go true a true c = free-told k (p - 1) (at t p) (fit-at k t p records (ltb-true 0 p a) (leb-true p 40 c)) l
+
+    lower : (p q : ℕ) → Listed t p → Listed t q → p < q → at t q .mac ≡ at t p .mac → ⊥
+    lower p q lp lq l s = lower-apart (map macOf t) (q - 1) (p - 1) macs (omega (arith, inside t p e lp .0)) (rw length-map (omega (arith, inside t q e lq .0, inside t q e lq .1))) (rw (mac-of t q (inside t q e lq .0)) (fits q lq .1 .mac .from)) (mac-of t q (inside t q e lq .0) ∙ s ∙ sym (mac-of t p (inside t p e lp .0)))
+
+    different : (b : Bool) (p q : ℕ) → ltb p q ≡ b → Listed t p → Listed t q → (p ≡ q → ⊥) → at t p .mac ≡ at t q .mac → ⊥
+    different true p q b lp lq ne s = lower p q lp lq (ltb-true p q b) (sym s)
+    different false p q b lp lq ne s = lower q p lq lp (omega (arith, ltb-false p q b)) s
+
+record-passes : (k : ℕ) (t : List Node) → FitTable k t → (i : ℕ) → recordFits k i (at t (i + 1)) ≡ true
+unfolding recordFits
+record-passes k t f i = go (ℕ-discrete (at t (i + 1) .kind) 0)
+  where
+    go : Dec (at t (i + 1) .kind ≡ 0) → recordFits k i (at t (i + 1)) ≡ true
+    go (yes e) = rw (f .blank (i + 1) e) (or-right (ltb i k && inRange none) (isBlank none) refl)
+    go (no ne) = or-left (ltb i k && inRange (at t (i + 1))) (isBlank (at t (i + 1))) (both (ltb i k) (inRange (at t (i + 1))) (lt-ltb i k (omega (arith, f .within (i + 1) ne .upTo))) (ranges-pass (at t (i + 1)) (f .ranges (i + 1) ne)))
+
+pair-passes : (m n : ℕ) → ((m ≡ 0 → ⊥) → m ≡ n → ⊥) → (eqb m 0 || not (eqb m n)) ≡ true
+pair-passes m n h = go (ℕ-discrete m 0)
+  where
+    go : Dec (m ≡ 0) → (eqb m 0 || not (eqb m n)) ≡ true
+    go (yes e) = or-left (eqb m 0) (not (eqb m n)) (eq-eqb m 0 e)
+    go (no ne) = or-right (eqb m 0) (not (eqb m n)) (not-yes (eqb m n) (ne-eqb m n (h ne)))
+
+pub table-passes : (k : ℕ) (t : List Node) → FitTable k t → tableFits k t ≡ true
+unfolding tableFits areApart
+table-passes k t f = both _ _ (all-of _ 40 (λ i l. rw (← index t i) (record-passes k t f i))) (all-of _ (length (map macOf t)) (λ i l. all-of _ i (λ j m. pair-passes (getD (map macOf t) i 0) (getD (map macOf t) j 0) (λ ne e. f .apart (i + 1) (j + 1) (listed i ne) (listed j (λ z. ne (e ∙ z))) (λ q. omega arith) (sym (mac-at t i) ∙ e ∙ mac-at t j)))))
+  where
+    listed : (i : ℕ) → (getD (map macOf t) i 0 ≡ 0 → ⊥) → Listed t (i + 1)
+    listed i ne z = ne (mac-at t i ∙ ap macOf (f .blank (i + 1) z))

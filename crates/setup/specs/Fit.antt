@@ -1,0 +1,32 @@
+-- The part of "fit" that speaks of the table (01, "Fit"). Index i, from 0, is position i + 1.
+use Prim.Native.Nat.{ℕ}
+use mathlib.Core.Bool.{Bool, _&&_, _||_, not}
+use mathlib.Core.List.{List, map}
+use lib.ListN.{getD, length}
+use lib.Dec.{eqb, ltb}
+use Rattle.ground.specs.Below.{all}
+use Rattle.board.specs.declared.Node.{Node}
+use Rattle.board.specs.Node.{none, isBlank, inRange}
+
+-- a record is listed within 1 to k and its ranges, or all zeros (01, "listed records within 1 to k and the ranges, others all zeros")
+unfoldable pub recordFits : ℕ → ℕ → Node → Bool
+recordFits k i n = ltb i k && inRange n || isBlank n
+
+-- so is each of the forty
+abbrev pub recordsFit : ℕ → List Node → Bool
+recordsFit k t = all (λ i. recordFits k i (getD t i none)) 40
+
+-- the i-th MAC is 0, which is nobody's, or differs from each before it
+abbrev pub apartFrom : List ℕ → ℕ → Bool
+apartFrom macs i = all (λ j. eqb (getD macs i 0) 0 || not (eqb (getD macs i 0) (getD macs j 0))) i
+
+-- no MAC but 0 stands twice: each pair is compared once (01, "with different MACs")
+unfoldable pub areApart : List ℕ → Bool
+areApart macs = all (apartFrom macs) (length macs)
+
+abbrev pub macOf : Node → ℕ
+macOf n = n .mac
+
+-- forty records, listed ones within 1 to k and the ranges, with different MACs, others all zeros (01, "Fit")
+unfoldable pub tableFits : ℕ → List Node → Bool
+tableFits k t = recordsFit k t && areApart (map macOf t)

@@ -1,0 +1,3 @@
+pub mod Setup
+pub mod Fit
+pub mod Fitness

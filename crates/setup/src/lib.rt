@@ -1,0 +1,260 @@
+// The panel's setup: the pool of addresses, the bytes that its frames carry, its own MAC and session. And the part of
+// "fit" that speaks of the setup and of the table.
+use board::Node;
+use board::Table;
+use refusal::Refusal;
+ghost use mathlib.Core.Path.{_≡_};
+ghost use mathlib.Core.List.{map, []};
+ghost use Prim.Native.Nat.{_+_, _≤_, _<_};
+ghost use lib.ListN.{length};
+ghost use Rattle.ground.specs.Below.{upFrom};
+ghost use Rattle.refusal.specs.Refusal.{ruled, refuses, gives};
+ghost use Rattle.board.specs.Node.{isMac, isBlank, inRange};
+ghost use Rattle.setup.specs.Setup.{areAddresses, areRising, arePool, isPool, address, setupFits, setupRules, toldOf};
+ghost use Rattle.setup.specs.Fit.{recordFits, recordsFit, apartFrom, areApart, macOf, tableFits};
+
+#[repr(C)]
+pub struct Setup {
+    pub pool: [u8; 40],
+    pub k: usize,
+    pub subnet: u8,
+    pub internal: u8,
+    pub mac: u64,
+    pub session: u64,
+}
+
+// What the setup step says of a pool and a MAC.
+pub enum Judged {
+    Fine,
+    Refused(Refusal),
+}
+
+// The first n are addresses, 1 to 254 each.
+fn are_addresses(addresses: &[u8], n: usize) -> bool
+    requires { ⌜ n ≤ length (now addresses) ⌝ }
+    ensures { λ r. ⌜ r ≡ areAddresses (now (addresses .entry)) n ⌝ }
+{
+    let mut ok = true;
+    let mut i: usize = 0;
+    while i < n {
+        ok = ok & ((0 < addresses[i]) & (addresses[i] <= 254));
+        i += 1;
+    }
+    ok
+}
+
+// Each of the first n is below the next.
+fn are_rising(addresses: &[u8], n: usize) -> bool
+    requires { ⌜ n + 1 ≤ length (now addresses) ⌝ }
+    ensures { λ r. ⌜ r ≡ areRising (now (addresses .entry)) n ⌝ }
+{
+    let mut ok = true;
+    let mut i: usize = 0;
+    while i < n {
+        let next = i + 1;
+        ok = ok & (addresses[i] < addresses[next]);
+        i = next;
+    }
+    ok
+}
+
+// The first k are a pool.
+fn are_pool(addresses: &[u8], k: usize) -> bool
+    requires { ⌜ k ≤ length (now addresses) ⌝ }
+    ensures { λ r. ⌜ r ≡ arePool k (now (addresses .entry)) ⌝ }
+{
+    if 0 < k {
+        if k <= 40 {
+            are_addresses(addresses, k) & are_rising(addresses, k - 1)
+        } else {
+            false
+        }
+    } else {
+        false
+    }
+}
+
+// A pool: 1 to 40 addresses, strictly rising, each 1 to 254.
+pub fn is_pool(addresses: &[u8]) -> bool
+    ensures { λ r. ⌜ r ≡ isPool (now (addresses .entry)) ⌝ }
+{
+    are_pool(addresses, addresses.len())
+}
+
+// The pool that the panel is shipped with.
+pub fn shipped_pool() -> [u8; 40]
+    ensures { λ r. ⌜ r ≡ upFrom 16 40 ⌝ }
+{
+    [
+        16,
+        17,
+        18,
+        19,
+        20,
+        21,
+        22,
+        23,
+        24,
+        25,
+        26,
+        27,
+        28,
+        29,
+        30,
+        31,
+        32,
+        33,
+        34,
+        35,
+        36,
+        37,
+        38,
+        39,
+        40,
+        41,
+        42,
+        43,
+        44,
+        45,
+        46,
+        47,
+        48,
+        49,
+        50,
+        51,
+        52,
+        53,
+        54,
+        55,
+    ]
+}
+
+// The address for which a position stands; 0, nobody's, where the position is none of 1 to k.
+pub fn address_at(setup: Setup, position: usize) -> u8
+    ensures { λ r. ⌜ r ≡ address setup position ⌝ }
+{
+    if 0 < position {
+        if position <= ground::least(setup.k, 40) {
+            let i = position - 1;
+            setup.pool[i]
+        } else {
+            0
+        }
+    } else {
+        0
+    }
+}
+
+fn is_mac(mac: u64) -> bool
+    ensures { λ r. ⌜ r ≡ isMac mac ⌝ }
+{
+    (0 < mac) & (mac < 0x100_0000_0000_0000)
+}
+
+// The setup is fit: its pool and its own MAC.
+pub fn setup_fits(setup: Setup) -> bool
+    ensures { λ r. ⌜ r ≡ setupFits setup ⌝ }
+{
+    let k = setup.k;
+    if k <= 40 {
+        let pool = setup.pool;
+        are_pool(&pool, k) & is_mac(setup.mac)
+    } else {
+        false
+    }
+}
+
+// What the setup step refuses: a pool that is none, then a MAC outside its range.
+pub fn judge_setup(addresses: &[u8], mac: u64) -> Judged
+    ensures { λ r. ⌜ toldOf r ≡ ruled (setupRules (now (addresses .entry)) mac) refuses (gives []) ⌝ }
+{
+    if !is_pool(addresses) {
+        return Judged::Refused(Refusal::BadPool);
+    }
+    if !is_mac(mac) {
+        return Judged::Refused(Refusal::BadMac);
+    }
+    Judged::Fine
+}
+
+fn in_range(node: Node) -> bool
+    ensures { λ r. ⌜ r ≡ inRange node ⌝ }
+{
+    ((node.kind != 0) & (node.kind != 165))
+        & is_mac(node.mac)
+        & (node.misses <= 2)
+        & (node.owed <= 1)
+}
+
+fn is_blank(node: Node) -> bool
+    ensures { λ r. ⌜ r ≡ isBlank node ⌝ }
+{
+    (node.kind == 0) & (node.mac == 0) & (node.session == 0) & (node.misses == 0) & (node.owed == 0)
+}
+
+// The record at index i, that is at position i + 1, is fit among k positions.
+fn record_fits(k: usize, i: usize, node: Node) -> bool
+    ensures { λ r. ⌜ r ≡ recordFits k i node ⌝ }
+{
+    ((i < k) & in_range(node)) | is_blank(node)
+}
+
+fn records_fit(k: usize, table: Table) -> bool
+    ensures { λ r. ⌜ r ≡ recordsFit k (table .nodes) ⌝ }
+{
+    let mut ok = true;
+    let mut i: usize = 0;
+    while i < 40 {
+        ok = ok & record_fits(k, i, table.nodes[i]);
+        i += 1;
+    }
+    ok
+}
+
+// The MACs by themselves, so that they are compared without the table being handed on.
+fn macs_of(table: Table) -> [u64; 40]
+    ensures { λ r. ⌜ r ≡ map macOf (table .nodes) ⌝ }
+{
+    let mut macs = [0u64; 40];
+    let mut j: usize = 0;
+    while j < 40 {
+        macs[j] = table.nodes[j].mac;
+        j += 1;
+    }
+    macs
+}
+
+// The MAC at index i is 0, or none of those before it.
+fn apart_from_lower(macs: &[u64], i: usize) -> bool
+    requires { ⌜ i < length (now macs) ⌝ }
+    ensures { λ r. ⌜ r ≡ apartFrom (now (macs .entry)) i ⌝ }
+{
+    let mac = macs[i];
+    let mut ok = true;
+    let mut j: usize = 0;
+    while j < i {
+        ok = ok & ((mac == 0) | (mac != macs[j]));
+        j += 1;
+    }
+    ok
+}
+
+fn are_apart(macs: &[u64]) -> bool
+    ensures { λ r. ⌜ r ≡ areApart (now (macs .entry)) ⌝ }
+{
+    let mut ok = true;
+    let mut i: usize = 0;
+    while i < macs.len() {
+        ok = ok & apart_from_lower(macs, i);
+        i += 1;
+    }
+    ok
+}
+
+// The table is fit among k positions.
+pub fn table_fits(k: usize, table: Table) -> bool
+    ensures { λ r. ⌜ r ≡ tableFits k (table .nodes) ⌝ }
+{
+    let macs = macs_of(table);
+    records_fit(k, table) & are_apart(&macs)
+}
