@@ -5,7 +5,7 @@ use native.Mathlib.Decide.{ℕ-discrete}
 use mathlib.Core.Path.{_≡_, refl, ap, _∙_, sym}
 use mathlib.Core.Logic.{_⊎_, inl, inr}
 use mathlib.Core.List.{List, [], _∷_, _++_}
-use mathlib.Core.Bool.{Bool, true, false}
+use mathlib.Core.Bool.{Bool, true, false, false≢true}
 use borrow.Author.Needs.{needs}
 use Rattle.ground.specs.Choose.{choose}
 use Rattle.ground.specs.Below.{upFrom, firstOr}
@@ -32,6 +32,26 @@ pub first-append : (d : ℕ) (p : ℕ → Bool) (xs ys : List ℕ) → firstOr d
 unfolding firstOr
 first-append d p [] ys = refl
 first-append d p (x ∷ xs) ys = rw (first-append d p xs ys) refl
+
+-- a first other than the default 0 is the first for any default
+pub first-found : (d : ℕ) (p : ℕ → Bool) (xs : List ℕ) → 0 < firstOr 0 p xs → firstOr 0 p xs ≡ firstOr d p xs
+unfolding firstOr choose
+first-found d p [] l = absurd (let z : ⊥ = omega arith in z)
+first-found d p (x ∷ xs) l = go (p x) (λ h. first-found d p xs h) l
+  where
+    go : (b : Bool) → (0 < firstOr 0 p xs → firstOr 0 p xs ≡ firstOr d p xs) → 0 < choose b x (firstOr 0 p xs) → choose b x (firstOr 0 p xs) ≡ choose b x (firstOr d p xs)
+    go true r h = refl
+    go false r h = r h
+
+-- where 0 itself does not pass, a first of 0 says that none does
+pub first-else : (d : ℕ) (p : ℕ → Bool) (xs : List ℕ) → p 0 ≡ false → firstOr 0 p xs ≤ 0 → d ≡ firstOr d p xs
+unfolding firstOr choose
+first-else d p [] z l = refl
+first-else d p (x ∷ xs) z l = go (p x) refl (λ h. first-else d p xs z h) l
+  where
+    go : (b : Bool) → p x ≡ b → (firstOr 0 p xs ≤ 0 → d ≡ firstOr d p xs) → choose b x (firstOr 0 p xs) ≤ 0 → d ≡ choose b x (firstOr d p xs)
+    go true e r h = absurd (false≢true (sym z ∙ ap p (let q : 0 ≡ x = omega arith in q) ∙ e))
+    go false e r h = r h
 
 -- what closes each need of a loop that looks for the first
 pub ruleset firsts = (needs, first-hit, first-miss, first-none)

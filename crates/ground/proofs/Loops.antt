@@ -108,6 +108,18 @@ none-of p n i h l = go (p i) refl
     go false e = e
     go true e = absurd (false≢true (sym h ∙ some-of p n i l e))
 
+-- a test that fails at each number fails of some
+pub some-no : (p : ℕ → Bool) (n : ℕ) → ((i : ℕ) → i < n → p i ≡ false) → some p n ≡ false
+unfolding some
+some-no p zero h = refl
+some-no p (suc n) h = rw (some-no p n (λ i l. h i (omega arith)), h n (omega arith)) refl
+
+-- a test that fails at each number counts none
+pub count-no : (p : ℕ → Bool) (n : ℕ) → ((i : ℕ) → i < n → p i ≡ false) → count p n ≡ 0
+unfolding count
+count-no p zero h = refl
+count-no p (suc n) h = rw (count-no p n (λ i l. h i (omega arith)), h n (omega arith)) refl
+
 -- two tests that agree below n give one count
 pub count-same : (p q : ℕ → Bool) (n : ℕ) → ((i : ℕ) → i < n → p i ≡ q i) → count p n ≡ count q n
 unfolding count

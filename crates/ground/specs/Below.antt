@@ -33,3 +33,8 @@ upFrom a (suc n) = a ∷ upFrom (a + 1) n
 unfoldable pub firstOr : ℕ → (ℕ → Bool) → List ℕ → ℕ
 firstOr d p [] = d
 firstOr d p (x ∷ xs) = choose (p x) x (firstOr d p xs)
+
+-- the highest number from 1 to n of which the test holds, or 0 where it holds of none
+unfoldable pub highest : (ℕ → Bool) → ℕ → ℕ
+highest p zero = 0
+highest p (suc n) = choose (p (suc n)) (suc n) (highest p n)
