@@ -3,6 +3,7 @@ use Prim.Native.Nat.{ℕ, zero, suc, _-_, _≤_, _<_}
 use native.Mathlib.Omega.{arith}
 use mathlib.Core.Path.{_≡_, refl, sym, _∙_, ap}
 use mathlib.Core.List.{List, _∷_}
+use mathlib.Core.Bool.{Bool}
 use lib.ListN.{getD, set, length, List·getD-eq-default}
 use lib.Seq.{set-out}
 use borrow.Author.Tests.{lt-ltb, le-ltb}
@@ -10,6 +11,8 @@ use Rattle.ground.proofs.Choices.{choose-yes, choose-no}
 use Rattle.board.specs.declared.Node.{Node}
 use Rattle.board.specs.Node.{none}
 use Rattle.board.specs.Table.{at, put}
+use Rattle.board.specs.declared.Wanted.{Wanted}
+use Rattle.board.specs.Wanted.{wants, wantedAt}
 
 pub at-position : (t : List Node) (p : ℕ) → 0 < p → at t p ≡ getD t (p - 1) none
 unfolding at
@@ -21,6 +24,10 @@ at-zero t p h = rw (let e : p ≡ 0 = omega arith in e) refl
 
 pub at-past : (t : List Node) (p n : ℕ) → length t ≡ n → n < p → at t p ≡ none
 at-past t p n e h = at-position t p (omega arith) ∙ List·getD-eq-default t none (omega arith)
+
+-- what the test of the element before p says of position p
+pub looked : (t : List Node) (w : Wanted) (p : ℕ) {r : Bool} → r ≡ wants w (getD t (p - 1) none) → 0 < p → r ≡ wantedAt w t p
+looked t w p e h = e ∙ ap (wants w) (sym (at-position t p h))
 
 pub put-position : (t : List Node) (p : ℕ) (n : Node) → 0 < p → put t p n ≡ set t (p - 1) n
 unfolding put

@@ -1,0 +1,19 @@
+use mathlib.Core.Path.{refl, _∙_}
+use borrow.Author.Needs.{needs}
+use Rattle.board.proofs.settle_at.Statement.{statement}
+use Rattle.board.proofs.settle_at.Tie as tie
+
+record-at-requires : tie.Need-record-at-requires
+record-at-requires c κs = search needs
+
+told-requires : tie.Need-told-requires
+told-requires c κs = search needs
+
+put-at-requires : tie.Need-put-at-requires
+put-at-requires c κs = search needs
+
+returns : tie.Need-returns
+returns c = c .put-at .ensures ∙ rw (c .before .told .ensures, c .before .before .record-at .ensures) refl
+
+pub settle-at-spec : {M : Type 1} → statement M
+settle-at-spec = tie.close (tie.spec record-at-requires told-requires put-at-requires returns)
