@@ -21,7 +21,7 @@ use Rattle.board.specs.declared.Node.{Node}
 use Rattle.board.specs.Node.{none}
 use Rattle.board.specs.Table.{at, listedAt}
 use Rattle.board.proofs.Positions.{at-position}
-use Rattle.nodelist.specs.Highest.{highestListed}
+use Rattle.board.specs.Wanted.{highestListed}
 use Rattle.refusal.specs.Refusal.{refuses, gives}
 use Rattle.refusal.specs.declared.Refusal.the-variants.{NoRoom}
 use Rattle.nodelist.specs.List.{kindAt, nodeList, listLength, written, output, sameByte, sameList}

@@ -11,7 +11,7 @@ use Rattle.refusal.specs.declared.Refusal.{Refusal}
 use Rattle.refusal.specs.declared.Refusal.the-variants.{NoRoom}
 use Rattle.board.specs.declared.Node.{Node}
 use Rattle.board.specs.Table.{at}
-use Rattle.nodelist.specs.Highest.{highestListed}
+use Rattle.board.specs.Wanted.{highestListed}
 use Rattle.nodelist.specs.declared.Listing.{Listing}
 use Rattle.nodelist.specs.declared.Listing.the-variants.{Written, Refused}
 

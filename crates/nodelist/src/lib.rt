@@ -2,7 +2,6 @@
 use board::Table;
 use refusal::Refusal;
 ghost use mathlib.Core.Path.{_≡_};
-ghost use Rattle.nodelist.specs.Highest.{highestListed};
 ghost use Rattle.nodelist.specs.List.{listLength, written, output, told, sameList};
 
 // What writing the list answers: the count of bytes written, or why nothing was.
@@ -11,25 +10,11 @@ pub enum Listing {
     Refused(Refusal),
 }
 
-fn highest_listed(table: Table) -> usize
-    ensures { λ r. ⌜ r ≡ highestListed (table .nodes) ⌝ }
-{
-    let mut p: usize = 40;
-    while 0 < p {
-        let i = p - 1;
-        if table.nodes[i].kind != 0 {
-            return p;
-        }
-        p = i;
-    }
-    0
-}
-
 // How many bytes the list has.
 pub fn list_length(table: Table) -> usize
     ensures { λ r. ⌜ r ≡ listLength (table .nodes) ⌝ }
 {
-    highest_listed(table) + 1
+    board::highest_listed(table) + 1
 }
 
 // Writes the list at the front of the output; no byte changes where it does not fit.
