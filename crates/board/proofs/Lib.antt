@@ -1,1 +1,4 @@
 pub mod Positions
+pub mod LowestWanted
+pub mod Index
+pub mod NextListed

@@ -57,7 +57,7 @@ first-else d p (x ∷ xs) z l = go (p x) refl (λ h. first-else d p xs z h) l
 pub ruleset firsts = (needs, first-hit, first-miss, first-none)
 
 -- no number of the n from a on passes
-pub None : (ℕ → Bool) → ℕ → ℕ → Type 0
+abbrev pub None : (ℕ → Bool) → ℕ → ℕ → Type 0
 None p a n = (i : ℕ) → a ≤ i → i < a + n → p i ≡ false
 
 -- x is one of the n from a on, passes, and none before it does
@@ -72,7 +72,7 @@ abbrev pub FirstCase : ℕ → (ℕ → Bool) → ℕ → ℕ → ℕ → Type 0
 FirstCase d p a n r = ((None p a n) × (r ≡ d)) ⊎ First p a n r
 
 pub first-case : (d : ℕ) (p : ℕ → Bool) (a n : ℕ) → FirstCase d p a n (firstOr d p (upFrom a n))
-unfolding firstOr upFrom None choose
+unfolding firstOr upFrom choose
 first-case d p a zero = inl ((λ i h l. absurd (let z : ⊥ = omega arith in z)), refl)
 first-case d p a (suc n) = go (p a) refl (first-case d p (a + 1) n)
   where

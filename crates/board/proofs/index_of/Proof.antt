@@ -1,3 +1,9 @@
+-- `board::index_of` meets its contract: counted below a position of the table, and 0 where nobody can be listed.
+use mathlib.Core.Path.{ap}
+use lib.ListN.{length-map}
+use Rattle.board.specs.declared.Node.{Node}
+use Rattle.board.proofs.Positions.{at-past, at-zero}
+use Rattle.board.proofs.Index.{index-nobody, index-here}
 use borrow.Author.Needs.{needs}
 use Rattle.board.proofs.index_of.Statement.{statement}
 use Rattle.board.proofs.index_of.Tie as tie
@@ -15,13 +21,13 @@ kind-below-requires : tie.Need-kind-below-requires
 kind-below-requires c κs = search needs
 
 returns : tie.Need-returns
-returns c = search needs
+returns c = index-here _ _ _ (c .kind-below .ensures) (c .before .before .if1 .taken)
 
 returns-2 : tie.Need-returns-2
-returns-2 c = search needs
+returns-2 c = index-nobody _ _ (ap (λ (n : Node). n .kind) (at-past _ _ 40 (simp length-map at (c .before .before .good .0 .1 .1 .0 .1 .0 .1)) (c .if2 .left)))
 
 returns-3 : tie.Need-returns-3
-returns-3 c = search needs
+returns-3 c = index-nobody _ _ (ap (λ (n : Node). n .kind) (at-zero _ _ (c .if1 .left)))
 
 pub index-of-spec : {M : Type 1} → statement M
 index-of-spec =
