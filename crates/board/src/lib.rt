@@ -8,7 +8,6 @@ ghost use Rattle.board.specs.Table.{at, put};
 ghost use Rattle.board.specs.Change.{newNode, owing, settled, heardOf, missing, renewing, oweAll};
 ghost use Rattle.board.specs.Wanted.{wants, wantedAt, lowestOf, highestListed, ofKindBelow, indexOf, someListed};
 ghost use Rattle.board.specs.Round.{nextListed};
-
 use ground::least;
 use ground::one_if;
 

@@ -74,10 +74,10 @@ unfolding sameList sameByte
 same-yes internal t bytes h = ext-getD 0 bytes (nodeList internal t) (size ∙ sym (list-size internal t)) each
   where
     size : length bytes ≡ listLength t
-    size = eqb-true (length bytes) (listLength t) (and-left _ _ h)
+    size = eqb-true (length bytes) (listLength t) (and-left (eqb (length bytes) (listLength t)) (all (sameByte internal t bytes) (listLength t)) h)
 
     each : (i : ℕ) → i < length bytes → getD bytes i 0 ≡ getD (nodeList internal t) i 0
-    each i l = eqb-true _ _ (all-at (sameByte internal t bytes) (listLength t) i (and-right _ _ h) (omega arith))
+    each i l = eqb-true (getD bytes i 0) (getD (nodeList internal t) i 0) (all-at (sameByte internal t bytes) (listLength t) i (and-right (eqb (length bytes) (listLength t)) (all (sameByte internal t bytes) (listLength t)) h) (omega (arith, size)))
 
 pub same-of : (internal : ℕ) (t : List Node) (bytes : List ℕ) → bytes ≡ nodeList internal t → sameList internal t bytes ≡ true
 unfolding sameList sameByte

@@ -18,7 +18,7 @@ use Rattle.nodelist.proofs.same_list.Reads as same-list
 
 -- two answers that say the same are the same
 pub same-told : (r q : Listing) → told r ≡ told q → r ≡ q
-same-told (Written m) (Written n) h = ap Written (let e : m ≡ n = cc (ap (λ (t : Told). t .values) h) in e)
+same-told (Written m) (Written n) h = cc (ap (λ (t : Told). t .values) h)
 same-told (Written m) (Refused q) h = absurd (not-zero q (sym (ap (λ (t : Told). t .number) h)))
 same-told (Refused r) (Written n) h = absurd (not-zero r (ap (λ (t : Told). t .number) h))
 same-told (Refused r) (Refused q) h = ap Refused (same-refused r q h)

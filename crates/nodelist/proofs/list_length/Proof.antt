@@ -1,3 +1,4 @@
+-- `nodelist::list_length` meets its contract: the highest listed position is at most 40, so one more fits.
 use borrow.Author.Needs.{needs}
 use native.Mathlib.Omega.{arith}
 use Rattle.nodelist.proofs.Bytes.{highest-within}

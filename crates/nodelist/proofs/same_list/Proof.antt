@@ -1,3 +1,4 @@
+-- `nodelist::same_list` meets its contract: the bytes below i have been compared.
 use borrow.Author.Needs.{needs}
 use Prim.Native.Nat.{_+_, _-_, _≤_, _<_}
 use native.Mathlib.Omega.{arith}
@@ -25,7 +26,7 @@ shared-slice-read-same : tie.Need-shared-slice-read-same Inv-loop μ-loop
 shared-slice-read-same c = search needs
 
 loop-holds : tie.Need-loop-holds Inv-loop μ-loop
-loop-holds c = (search needs, search needs, omega (arith, highest-within (c .before .before .before .before .args .t2 .nodes)), search needs, search needs, same-begun _ _ _ )
+loop-holds c = (search needs, search needs, omega (arith, highest-within (c .before .before .before .before .args .t2 .nodes)), search needs, search needs, same-begun _ _ _)
 
 sub-p : tie.Need-sub-p Inv-loop μ-loop
 sub-p c = search needs
