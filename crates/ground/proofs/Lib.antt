@@ -3,6 +3,7 @@ pub mod Loops
 pub mod Firsts
 pub mod Runs
 pub mod Highest
+pub mod Picks
 pub mod Fronts
 pub mod Maps
 pub mod Unique
