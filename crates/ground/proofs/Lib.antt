@@ -1,7 +1,9 @@
 pub mod Choices
 pub mod Loops
 pub mod Firsts
+pub mod Runs
 pub mod Highest
+pub mod Picks
 pub mod Fronts
 pub mod Laid
 pub mod Maps

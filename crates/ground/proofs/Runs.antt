@@ -1,0 +1,17 @@
+-- The numbers from a on: how many, and which stands where.
+use Prim.Native.Nat.{ℕ, zero, suc, _+_, _<_}
+use native.Mathlib.Omega.{arith}
+use mathlib.Core.Path.{_≡_, refl, ap, _∙_}
+use lib.ListN.{length, getD}
+use Rattle.ground.specs.Below.{upFrom}
+
+pub run-length : (a n : ℕ) → length (upFrom a n) ≡ n
+unfolding upFrom
+run-length a zero = refl
+run-length a (suc n) = ap suc (run-length (a + 1) n)
+
+pub run-at : (a n i d : ℕ) → i < n → getD (upFrom a n) i d ≡ a + i
+unfolding upFrom
+run-at a zero i d h = absurd (let z : ⊥ = omega arith in z)
+run-at a (suc n) zero d h = omega arith
+run-at a (suc n) (suc i) d h = run-at (a + 1) n i d (omega arith) ∙ omega arith

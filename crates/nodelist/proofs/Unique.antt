@@ -1,0 +1,39 @@
+-- The contracts, as they stand in the source, leave one result for each input, and of the writer one content of the output.
+use mathlib.Core.Path.{_≡_, refl, ap, sym, _∙_}
+use mathlib.Core.List.{List, [], _∷_}
+use mathlib.Core.Bool.{Bool}
+use native.Mathlib.Omega.{arith}
+use Prim.Native.Nat.{ℕ}
+use base.Fml.{Lft}
+use denote.Ref.{RefT, now}
+use Rattle.refusal.specs.Refusal.{Told}
+use Rattle.refusal.proofs.Numbers.{not-zero, same-refused}
+use Rattle.board.specs.declared.Table.{Table}
+use Rattle.nodelist.specs.List.{told}
+use Rattle.nodelist.specs.declared.Listing.{Listing}
+use Rattle.nodelist.specs.declared.Listing.the-variants.{Written, Refused}
+use Rattle.nodelist.proofs.list_length.Reads as list-length
+use Rattle.nodelist.proofs.write_list.Reads as write-list
+use Rattle.nodelist.proofs.same_list.Reads as same-list
+
+-- two answers that say the same are the same
+pub same-told : (r q : Listing) → told r ≡ told q → r ≡ q
+same-told (Written m) (Written n) h = cc (ap (λ (t : Told). t .values) h)
+same-told (Written m) (Refused q) h = absurd (not-zero q (sym (ap (λ (t : Told). t .number) h)))
+same-told (Refused r) (Written n) h = absurd (not-zero r (ap (λ (t : Told). t .number) h))
+same-told (Refused r) (Refused q) h = ap Refused (same-refused r q h)
+
+pub unique-list-length : (a s t : _) (r q : ℕ) → list-length.Post tt a r s → list-length.Post tt a q t → r ≡ q
+unique-list-length a s t r q p p′ = p ∙ sym p′
+
+abbrev Writes : Type 0
+Writes = ℕ × (Table × (RefT (List ℕ) × Unit {0}))
+
+abbrev out : Writes → List ℕ
+out s = now (s .1 .1 .0)
+
+pub unique-write-list : (κs : Lft × Unit {0}) (a : Writes) (r q : Listing) (s t : Writes) → write-list.Post κs a r s → write-list.Post κs a q t → (r ≡ q) × (out s ≡ out t)
+unique-write-list κs a r q s t p p′ = (same-told r q (p .0 ∙ sym (p′ .0)), p .1 ∙ sym (p′ .1))
+
+pub unique-same-list : (κs : Lft × Unit {0}) (a s t : _) (r q : Bool) → same-list.Post κs a r s → same-list.Post κs a q t → r ≡ q
+unique-same-list κs a s t r q p p′ = p ∙ sym p′

@@ -1,0 +1,53 @@
+-- The node list (01, "Boards and positions"; 003, 5.14).
+use Prim.Native.Nat.{ℕ, _+_}
+use mathlib.Core.Bool.{Bool, _&&_}
+use mathlib.Core.List.{List, [], _∷_, map}
+use lib.ListN.{length, getD}
+use lib.Dec.{eqb, ltb}
+use Rattle.ground.specs.Below.{all, upFrom}
+use Rattle.ground.specs.Bytes.{laid}
+use Rattle.refusal.specs.Refusal.{Told, refuses, gives, ruled}
+use Rattle.refusal.specs.declared.Refusal.{Refusal}
+use Rattle.refusal.specs.declared.Refusal.the-variants.{NoRoom}
+use Rattle.board.specs.declared.Node.{Node}
+use Rattle.board.specs.Table.{at}
+use Rattle.board.specs.Wanted.{highestListed}
+use Rattle.nodelist.specs.declared.Listing.{Listing}
+use Rattle.nodelist.specs.declared.Listing.the-variants.{Written, Refused}
+
+-- the type at a position, 0 where it is free
+abbrev pub kindAt : List Node → ℕ → ℕ
+kindAt t p = (at t p) .kind
+
+-- byte 0 the internal type, byte i the type at position i or 0 if free, up to the highest listed position (01, "Node list payload")
+unfoldable pub nodeList : ℕ → List Node → List ℕ
+nodeList internal t = internal ∷ map (kindAt t) (upFrom 1 (highestListed t))
+
+-- one byte more than the highest listed position (01, "up to the highest listed position")
+abbrev pub listLength : List Node → ℕ
+listLength t = highestListed t + 1
+
+-- 11 where the output is shorter than the list (01, "Numbers", 11)
+abbrev pub rules : List Node → List ℕ → List (Bool × Refusal)
+rules t out = (ltb (length out) (listLength t), NoRoom) ∷ []
+
+-- what writing the list answers: 11, or the count of bytes written
+abbrev pub written : List Node → List ℕ → Told
+written t out = ruled (rules t out) refuses (gives (listLength t ∷ []))
+
+-- what the output holds after: on a refusal what it held, else the list and past it what it held (01, "On success, output past the frame keeps its bytes")
+abbrev pub output : ℕ → List Node → List ℕ → List ℕ
+output internal t out = ruled (rules t out) (λ refusal. out) (laid (nodeList internal t) out)
+
+-- what an answer of the writer says
+abbrev pub told : Listing → Told
+told (Written n) = gives (n ∷ [])
+told (Refused r) = refuses r
+
+-- byte i received is byte i of the list
+unfoldable pub sameByte : ℕ → List Node → List ℕ → ℕ → Bool
+sameByte internal t bytes i = eqb (getD bytes i 0) (getD (nodeList internal t) i 0)
+
+-- the bytes received are the list: as many, and each the same (01, "type 0x94 whose payload equals the list sent")
+unfoldable pub sameList : ℕ → List Node → List ℕ → Bool
+sameList internal t bytes = eqb (length bytes) (listLength t) && all (sameByte internal t bytes) (listLength t)

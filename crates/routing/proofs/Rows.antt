@@ -1,0 +1,45 @@
+-- The laws of the type to which a control command goes.
+use Prim.Native.Nat.{ℕ, _+_, _≤_, _<_}
+use native.Mathlib.Omega.{arith}
+use mathlib.Core.Path.{_≡_, refl, sym}
+use mathlib.Core.List.{List}
+use mathlib.Core.Bool.{Bool, true, false}
+use lib.ListN.{length, getD, drop}
+use lib.Dec.{ltb}
+use borrow.Author.Tests.{lt-ltb, le-ltb}
+use Rattle.ground.specs.Below.{firstOr}
+use Rattle.ground.proofs.Picks.{pick-hit, pick-miss, pick-none}
+use Rattle.board.specs.declared.Node.{Node}
+use Rattle.board.specs.declared.Wanted.the-variants.{Kind}
+use Rattle.board.specs.Wanted.{lowestOf}
+use Rattle.routing.specs.Priority.{priority}
+use Rattle.routing.specs.Route.{hasKind, priorityKind}
+
+-- of a type, what the lowest position says
+pub kind-listed : (t : List Node) (k kind : ℕ) {p : ℕ} → p ≡ lowestOf t (Kind kind) k → 0 < p → true ≡ hasKind t k kind
+unfolding hasKind
+kind-listed t k kind e h = sym (lt-ltb 0 (lowestOf t (Kind kind) k) (omega arith))
+
+pub kind-absent : (t : List Node) (k kind : ℕ) {p : ℕ} → p ≡ lowestOf t (Kind kind) k → p ≤ 0 → false ≡ hasKind t k kind
+unfolding hasKind
+kind-absent t k kind e h = sym (le-ltb 0 (lowestOf t (Kind kind) k) (omega arith))
+
+-- the rest of a row, where the types before i are absent
+unfoldable pub restKind : List Node → ℕ → List ℕ → ℕ → ℕ
+restKind t k row i = firstOr 0 (hasKind t k) (drop i row)
+
+pub rest-start : (t : List Node) (k code : ℕ) {row : List ℕ} → row ≡ priority code → priorityKind t k code ≡ restKind t k row 0
+unfolding priorityKind restKind
+rest-start t k code e = rw e refl
+
+pub rest-hit : (t : List Node) (k : ℕ) (row : List ℕ) (i : ℕ) {s p : ℕ} → s ≡ restKind t k row i → i < length row → p ≡ lowestOf t (Kind (getD row i 0)) k → 0 < p → getD row i 0 ≡ s
+unfolding restKind
+rest-hit t k row i h l e q = pick-hit 0 (hasKind t k) row i _ h l (kind-listed t k (getD row i 0) e q) refl
+
+pub rest-miss : (t : List Node) (k : ℕ) (row : List ℕ) (i : ℕ) {s p : ℕ} → s ≡ restKind t k row i → i < length row → p ≡ lowestOf t (Kind (getD row i 0)) k → p ≤ 0 → s ≡ restKind t k row (i + 1)
+unfolding restKind
+rest-miss t k row i h l e q = pick-miss 0 (hasKind t k) row i _ h l (kind-absent t k (getD row i 0) e q) refl
+
+pub rest-none : (t : List Node) (k : ℕ) (row : List ℕ) (i : ℕ) {s : ℕ} → s ≡ restKind t k row i → length row ≤ i → 0 ≡ s
+unfolding restKind
+rest-none t k row i h l = pick-none 0 (hasKind t k) row i _ h l

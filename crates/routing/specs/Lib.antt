@@ -1,0 +1,3 @@
+pub mod Priority
+pub mod Route
+pub mod Suits

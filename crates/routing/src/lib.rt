@@ -1,0 +1,105 @@
+// Where a request goes. The send method says how to read parameter 1: as a control command, a node type or a socket.
+use board::Table;
+use board::Wanted;
+ghost use mathlib.Core.Path.{_≡_};
+ghost use Rattle.routing.specs.Priority.{priority};
+ghost use Rattle.routing.specs.Route.{priorityKind, socket, named, routeOf};
+
+// The node types of Table 3, and its dash.
+const FURNACE: u8 = 2;
+
+const AIR_HANDLER: u8 = 3;
+
+const AIR_CONDITIONER: u8 = 4;
+
+const HEAT_PUMP: u8 = 5;
+
+const CROSSOVER: u8 = 9;
+
+const ZONE_CONTROLLER: u8 = 21;
+
+const DASH: u8 = 0;
+
+// Table 3's rows, by control command.
+const HEAT: [u8; 5] = [ZONE_CONTROLLER, HEAT_PUMP, FURNACE, CROSSOVER, AIR_HANDLER];
+
+const COOL: [u8; 5] = [
+    ZONE_CONTROLLER,
+    HEAT_PUMP,
+    AIR_CONDITIONER,
+    CROSSOVER,
+    FURNACE,
+];
+
+const FAN: [u8; 5] = [ZONE_CONTROLLER, AIR_HANDLER, FURNACE, CROSSOVER, DASH];
+
+const EMERGENCY: [u8; 5] = [ZONE_CONTROLLER, AIR_HANDLER, FURNACE, CROSSOVER, DASH];
+
+const DEFROST: [u8; 5] = [ZONE_CONTROLLER, AIR_HANDLER, FURNACE, CROSSOVER, DASH];
+
+const AUX_HEAT: [u8; 5] = [ZONE_CONTROLLER, AIR_HANDLER, FURNACE, CROSSOVER, DASH];
+
+const NO_ROW: [u8; 5] = [DASH, DASH, DASH, DASH, DASH];
+
+// The row of a control command code.
+fn row_of(code: u8) -> [u8; 5]
+    ensures { λ r. ⌜ r ≡ priority code ⌝ }
+{
+    match code {
+        100 => HEAT,
+        101 => COOL,
+        102 => FAN,
+        103 => EMERGENCY,
+        104 => DEFROST,
+        105 => AUX_HEAT,
+        _ => NO_ROW,
+    }
+}
+
+// The first type of a control command's row of which a board is listed; 0 for none.
+fn priority_kind(table: Table, k: usize, code: u8) -> u8
+    ensures { λ r. ⌜ r ≡ priorityKind (table .nodes) k code ⌝ }
+{
+    let row = row_of(code);
+    let mut i: usize = 0;
+    while i < 5 {
+        let kind = row[i];
+        if 0 < board::lowest(table, Wanted::Kind(kind), k) {
+            return kind;
+        }
+        i += 1;
+    }
+    0
+}
+
+// A socket's position, where a board is listed there; 0 where not.
+fn at_socket(table: Table, k: usize, position: usize) -> usize
+    ensures { λ r. ⌜ r ≡ socket (table .nodes) k position ⌝ }
+{
+    let node = board::record_at(table, position);
+    if (0 < position) & (position <= k) & (node.kind != 0) {
+        position
+    } else {
+        0
+    }
+}
+
+// The position that a method and parameter 1 name; 0 for none.
+fn named_position(table: Table, k: usize, method: u8, parameter: u8) -> usize
+    ensures { λ r. ⌜ r ≡ named (table .nodes) k method parameter ⌝ }
+{
+    match method {
+        1 => board::lowest(table, Wanted::Kind(priority_kind(table, k, parameter)), k),
+        2 => board::lowest(table, Wanted::Kind(parameter), k),
+        3 => at_socket(table, k, parameter as usize),
+        _ => 0,
+    }
+}
+
+// Where the request of a sender goes, of k positions; 0 where it is discarded.
+pub fn route(table: Table, k: usize, sender: usize, method: u8, parameter: u8) -> usize
+    ensures { λ r. ⌜ r ≡ routeOf (table .nodes) k sender method parameter ⌝ }
+{
+    let to = named_position(table, k, method, parameter);
+    if to == sender { 0 } else { to }
+}
