@@ -14,7 +14,7 @@ use Rattle.ground.proofs.Choices.{and-left, and-right, both}
 use Rattle.ground.proofs.Loops.{all-at, all-of}
 use Rattle.board.specs.Node.{isMac}
 use Rattle.setup.specs.declared.Setup.{Setup}
-use Rattle.setup.specs.Setup.{areAddresses, areRising, arePool, isPool, setupFits}
+use Rattle.setup.specs.Setup.{areAddresses, areRising, arePool, isPool, shippedPool, setupFits}
 use Rattle.setup.specs.Fitness.{Pool, Mac, FitSetup}
 
 -- from each below the next to each below all that follow
@@ -74,6 +74,6 @@ unfolding setupFits
 setup-passes s f = both _ _ (pool-passes (s .k) (s .pool) (f .pool)) (mac-passes (s .mac) (f .mac))
 
 -- the shipped pool is one, by computation
-pub shipped : isPool (upFrom 16 40) ≡ true
+pub shipped : isPool shippedPool ≡ true
 unfolding arePool upFrom all
 shipped = refl

@@ -4,7 +4,7 @@ use mathlib.Core.Bool.{Bool, _&&_, not}
 use mathlib.Core.List.{List, [], _∷_}
 use lib.ListN.{getD, length, take}
 use lib.Dec.{leb, ltb}
-use Rattle.ground.specs.Below.{all}
+use Rattle.ground.specs.Below.{all, upFrom}
 use Rattle.refusal.specs.declared.Refusal.{Refusal}
 use Rattle.refusal.specs.declared.Refusal.the-variants.{BadPool, BadMac}
 use Rattle.refusal.specs.Refusal.{Told, refuses, gives}
@@ -28,6 +28,10 @@ arePool k addresses = ltb 0 k && leb k 40 && (areAddresses addresses k && areRis
 -- the whole list is a pool
 abbrev pub isPool : List ℕ → Bool
 isPool addresses = arePool (length addresses) addresses
+
+-- the shipped pool, 16 to 55: the first forty of Table 2's range for boards later than 1.0 (000, Table 2)
+abbrev pub shippedPool : List ℕ
+shippedPool = upFrom 16 40
 
 -- position i, from 1 to k, stands for the pool's i-th address (01, "Boards and positions"); 0 elsewhere
 unfoldable pub address : Setup → ℕ → ℕ

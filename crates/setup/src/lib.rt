@@ -7,12 +7,12 @@ ghost use mathlib.Core.Path.{_≡_};
 ghost use mathlib.Core.List.{map, []};
 ghost use Prim.Native.Nat.{_+_, _≤_, _<_};
 ghost use lib.ListN.{length};
-ghost use Rattle.ground.specs.Below.{upFrom};
 ghost use Rattle.refusal.specs.Refusal.{ruled, refuses, gives};
 ghost use Rattle.board.specs.Node.{isMac, isBlank, inRange};
-ghost use Rattle.setup.specs.Setup.{areAddresses, areRising, arePool, isPool, address, setupFits, setupRules, toldOf};
+ghost use Rattle.setup.specs.Setup.{areAddresses, areRising, arePool, isPool, shippedPool, address, setupFits, setupRules, toldOf};
 ghost use Rattle.setup.specs.Fit.{recordFits, recordsFit, apartFrom, areApart, macOf, tableFits};
 
+// The first k of the pool are in use. `internal` is the type of the virtual internal subordinate.
 #[repr(C)]
 pub struct Setup {
     pub pool: [u8; 40],
@@ -81,52 +81,55 @@ pub fn is_pool(addresses: &[u8]) -> bool
     are_pool(addresses, addresses.len())
 }
 
+// 16 to 55.
+const SHIPPED: [u8; 40] = [
+    16,
+    17,
+    18,
+    19,
+    20,
+    21,
+    22,
+    23,
+    24,
+    25,
+    26,
+    27,
+    28,
+    29,
+    30,
+    31,
+    32,
+    33,
+    34,
+    35,
+    36,
+    37,
+    38,
+    39,
+    40,
+    41,
+    42,
+    43,
+    44,
+    45,
+    46,
+    47,
+    48,
+    49,
+    50,
+    51,
+    52,
+    53,
+    54,
+    55,
+];
+
 // The pool that the panel is shipped with.
 pub fn shipped_pool() -> [u8; 40]
-    ensures { λ r. ⌜ r ≡ upFrom 16 40 ⌝ }
+    ensures { λ r. ⌜ r ≡ shippedPool ⌝ }
 {
-    [
-        16,
-        17,
-        18,
-        19,
-        20,
-        21,
-        22,
-        23,
-        24,
-        25,
-        26,
-        27,
-        28,
-        29,
-        30,
-        31,
-        32,
-        33,
-        34,
-        35,
-        36,
-        37,
-        38,
-        39,
-        40,
-        41,
-        42,
-        43,
-        44,
-        45,
-        46,
-        47,
-        48,
-        49,
-        50,
-        51,
-        52,
-        53,
-        54,
-        55,
-    ]
+    SHIPPED
 }
 
 // The address for which a position stands; 0, nobody's, where the position is none of 1 to k.
@@ -145,6 +148,7 @@ pub fn address_at(setup: Setup, position: usize) -> u8
     }
 }
 
+// A MAC is 1 to 2^56 - 1.
 fn is_mac(mac: u64) -> bool
     ensures { λ r. ⌜ r ≡ isMac mac ⌝ }
 {
@@ -177,6 +181,7 @@ pub fn judge_setup(addresses: &[u8], mac: u64) -> Judged
     Judged::Fine
 }
 
+// A listed record within its ranges.
 fn in_range(node: Node) -> bool
     ensures { λ r. ⌜ r ≡ inRange node ⌝ }
 {
@@ -186,6 +191,7 @@ fn in_range(node: Node) -> bool
         & (node.owed <= 1)
 }
 
+// All zeros.
 fn is_blank(node: Node) -> bool
     ensures { λ r. ⌜ r ≡ isBlank node ⌝ }
 {
@@ -199,6 +205,7 @@ fn record_fits(k: usize, i: usize, node: Node) -> bool
     ((i < k) & in_range(node)) | is_blank(node)
 }
 
+// So is each of the forty.
 fn records_fit(k: usize, table: Table) -> bool
     ensures { λ r. ⌜ r ≡ recordsFit k (table .nodes) ⌝ }
 {
@@ -211,7 +218,7 @@ fn records_fit(k: usize, table: Table) -> bool
     ok
 }
 
-// The MACs by themselves, so that they are compared without the table being handed on.
+// The MACs by themselves: a slice of them is cheap to hand on in a loop, and the table is not.
 fn macs_of(table: Table) -> [u64; 40]
     ensures { λ r. ⌜ r ≡ map macOf (table .nodes) ⌝ }
 {
@@ -239,6 +246,7 @@ fn apart_from_lower(macs: &[u64], i: usize) -> bool
     ok
 }
 
+// No MAC but 0 stands twice: each pair is compared once.
 fn are_apart(macs: &[u64]) -> bool
     ensures { λ r. ⌜ r ≡ areApart (now (macs .entry)) ⌝ }
 {
