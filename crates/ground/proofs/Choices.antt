@@ -53,6 +53,13 @@ pub and-right : (a b : Bool) → (a && b) ≡ true → b ≡ true
 and-right true b h = h
 and-right false b h = absurd (false≢true h)
 
+pub or-left : (a b : Bool) → a ≡ true → (a || b) ≡ true
+or-left a b h = rw h refl
+
+pub or-right : (a b : Bool) → b ≡ true → (a || b) ≡ true
+or-right true b h = refl
+or-right false b h = h
+
 -- a definition by cases at a value of which the case is known
 pub by-case {ℓ κ} : {A : Type ℓ} {B : Type κ} (f : A → B) {x y : A} {r : B} → x ≡ y → r ≡ f y → r ≡ f x
 by-case f e h = h ∙ sym (ap f e)

@@ -7,7 +7,7 @@ use mathlib.Core.Path.{_≡_, refl, ap, _∙_, sym}
 use mathlib.Core.Bool.{Bool, true, false, _&&_, _||_, false≢true}
 use borrow.Author.Needs.{needs}
 use Rattle.ground.specs.Below.{one, all, some, count}
-use Rattle.ground.proofs.Choices.{and-left, and-right, both}
+use Rattle.ground.proofs.Choices.{and-left, and-right, both, or-left, or-right}
 
 pub all-more : (p : ℕ → Bool) (i : ℕ) → all p (i + 1) ≡ (all p i && p i)
 unfolding all
@@ -89,16 +89,9 @@ unfolding some
 some-of p zero i l h = absurd (let z : ⊥ = omega arith in z)
 some-of p (suc n) i l h = go (λ m. some-of p n i m h) (ℕ-discrete i n)
   where
-    either : (a b : Bool) → a ≡ true → (a || b) ≡ true
-    either a b e = rw e refl
-
-    other : (a b : Bool) → b ≡ true → (a || b) ≡ true
-    other true b e = refl
-    other false b e = e
-
     go : (i < n → some p n ≡ true) → Dec (i ≡ n) → (some p n || p n) ≡ true
-    go r (yes e) = other (some p n) (p n) (ap p (sym e) ∙ h)
-    go r (no ne) = either (some p n) (p n) (r (omega arith))
+    go r (yes e) = or-right (some p n) (p n) (ap p (sym e) ∙ h)
+    go r (no ne) = or-left (some p n) (p n) (r (omega arith))
 
 -- a test of some that fails fails at each number
 pub none-of : (p : ℕ → Bool) (n i : ℕ) → some p n ≡ false → i < n → p i ≡ false
