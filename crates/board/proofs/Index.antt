@@ -1,21 +1,20 @@
 -- A board's index among the boards of its kind.
-use Prim.Native.Nat.{ℕ, _-_, _≤_, _<_}
+use Prim.Native.Nat.{ℕ, _-_, _<_}
 use native.Mathlib.Omega.{arith}
 use mathlib.Core.Path.{_≡_, refl, sym, _∙_, ap}
 use mathlib.Core.List.{List}
 use mathlib.Core.Bool.{Bool, true, false, not, _&&_}
-use lib.ListN.{getD}
+use lib.ListN.{getD, length}
 use lib.Dec.{eqb, ltb}
 use borrow.Author.Tests.{eq-eqb, ltb-true, ltb-false}
-use Rattle.ground.specs.Below.{count}
 use Rattle.ground.proofs.Choices.{both}
 use Rattle.ground.proofs.Loops.{count-no, count-past}
 use Rattle.board.specs.declared.Node.{Node}
 use Rattle.board.specs.declared.Wanted.the-variants.{Kind}
-use Rattle.board.specs.Node.{none, isListed}
+use Rattle.board.specs.Node.{none}
 use Rattle.board.specs.Table.{at, listedAt}
 use Rattle.board.specs.Wanted.{wantedAt, ofKindBelow, indexOf}
-use Rattle.board.proofs.Positions.{at-position}
+use Rattle.board.proofs.Positions.{at-position, listed-within}
 
 -- no listed board is of kind 0
 pub of-kind-none : (t : List Node) (p : ℕ) → ofKindBelow t 0 p ≡ 0
@@ -40,9 +39,9 @@ own-kind : (t : List Node) (p : ℕ) → listedAt t p ≡ true → wantedAt (Kin
 own-kind t p h = both (listedAt t p) _ h (eq-eqb (at t p .kind) _ refl)
 
 -- a board's index is below the number of listed boards of its kind
-pub index-below : (t : List Node) (p : ℕ) → listedAt t p ≡ true → p ≤ 40 → indexOf t p < ofKindBelow t (at t p .kind) 41
+pub index-below : (t : List Node) (p : ℕ) → length t ≡ 40 → listedAt t p ≡ true → indexOf t p < ofKindBelow t (at t p .kind) 41
 unfolding indexOf
-index-below t p h l = count-past _ p 41 (omega arith) (own-kind t p h)
+index-below t p e h = count-past _ p 41 (omega (arith, listed-within t p e h .1)) (own-kind t p h)
 
 -- of two listed boards of one kind the one at the higher position has the higher index
 pub index-rises : (t : List Node) (p q : ℕ) → listedAt t p ≡ true → at t p .kind ≡ at t q .kind → p < q → indexOf t p < indexOf t q

@@ -2,3 +2,5 @@ pub mod Positions
 pub mod LowestWanted
 pub mod Index
 pub mod NextListed
+pub mod Changes
+pub mod Unique

@@ -1,21 +1,22 @@
--- The lowest wanted position: none is lower, and 0 says that there is none.
-use Prim.Native.Nat.{ℕ, _+_, _≤_, _<_, min}
+-- The lowest wanted position and the highest listed one: none is beyond it, and 0 says that there is none.
+use Prim.Native.Nat.{ℕ, _≤_, _<_, min}
 use native.Mathlib.Omega.{arith}
 use native.Mathlib.Decide.{ℕ-discrete}
-use mathlib.Core.Path.{_≡_, refl, sym, _∙_, ap}
-use mathlib.Core.Logic.{_⊎_, inl, inr}
+use mathlib.Core.Path.{_≡_, sym, _∙_, ap}
+use mathlib.Core.Logic.{inl, inr}
 use mathlib.Core.List.{List}
-use mathlib.Core.Bool.{Bool, true, false, false≢true}
+use mathlib.Core.Bool.{true, false, false≢true}
 use lib.Dec.{ltb}
 use borrow.Author.Tests.{lt-ltb, le-ltb}
 use Rattle.ground.proofs.Loops.{some-of, some-no}
+use Rattle.ground.proofs.Highest.{HighestCase, highest-case}
 use Rattle.ground.proofs.Firsts.{First, FirstCase, None, first-case}
 use Rattle.board.specs.declared.Node.{Node}
 use Rattle.board.specs.declared.Wanted.{Wanted}
 use Rattle.board.specs.declared.Wanted.the-variants.{Listed}
 use Rattle.board.specs.Node.{isListed}
-use Rattle.board.specs.Table.{at, listedAt}
-use Rattle.board.specs.Wanted.{wantedAt, lowestOf, someListed}
+use Rattle.board.specs.Table.{listedAt}
+use Rattle.board.specs.Wanted.{wantedAt, lowestOf, highestListed, someListed}
 use Rattle.board.proofs.Positions.{at-zero}
 
 -- the lowest is 0 and nobody from 1 to the limit is wanted; or it is wanted, within 1 to the limit, and no lower position is
@@ -30,6 +31,11 @@ lowest-found t w limit p e h l = go (lowest-case t w limit)
     go : FirstCase 0 (wantedAt w t) 1 (min limit 40) (lowestOf t w limit) → First (wantedAt w t) 1 (min limit 40) (lowestOf t w limit)
     go (inl (none, zeroed)) = absurd (false≢true (sym (none p h (omega arith)) ∙ e))
     go (inr f) = f
+
+-- the highest listed position is 0 and nobody is listed; or it is listed, and no higher position is
+pub highest-listed-case : (t : List Node) → HighestCase (listedAt t) 40 (highestListed t)
+unfolding highestListed
+highest-listed-case t = highest-case (listedAt t) 40
 
 -- nobody is listed at position 0
 pub listed-zero : (t : List Node) → listedAt t 0 ≡ false

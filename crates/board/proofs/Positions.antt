@@ -1,16 +1,17 @@
 -- The laws of the record at a position.
-use Prim.Native.Nat.{ℕ, zero, suc, _-_, _≤_, _<_}
+use Prim.Native.Nat.{ℕ, suc, _-_, _≤_, _<_}
 use native.Mathlib.Omega.{arith}
 use mathlib.Core.Path.{_≡_, refl, sym, _∙_, ap}
-use mathlib.Core.List.{List, _∷_}
-use mathlib.Core.Bool.{Bool}
+use mathlib.Core.List.{List}
+use mathlib.Core.Bool.{Bool, true, false, false≢true}
+use lib.Dec.{ltb}
 use lib.ListN.{getD, set, length, List·getD-eq-default}
 use lib.Seq.{set-out}
-use borrow.Author.Tests.{lt-ltb, le-ltb}
+use borrow.Author.Tests.{lt-ltb, le-ltb, ltb-true, ltb-false}
 use Rattle.ground.proofs.Choices.{choose-yes, choose-no}
 use Rattle.board.specs.declared.Node.{Node}
-use Rattle.board.specs.Node.{none}
-use Rattle.board.specs.Table.{at, put}
+use Rattle.board.specs.Node.{none, isListed}
+use Rattle.board.specs.Table.{at, put, listedAt}
 use Rattle.board.specs.declared.Wanted.{Wanted}
 use Rattle.board.specs.Wanted.{wants, wantedAt}
 
@@ -39,3 +40,18 @@ put-zero t p n h = sym (choose-no _ _ _ _ (le-ltb 0 p h) refl)
 
 pub put-past : (t : List Node) (p : ℕ) (n : Node) (size : ℕ) → length t ≡ size → size < p → put t p n ≡ t
 put-past t p n size e h = put-position t p n (omega arith) ∙ set-out t (p - 1) n (omega arith)
+
+-- in a table of forty records a listed position is one from 1 to 40
+pub listed-within : (t : List Node) (p : ℕ) → length t ≡ 40 → listedAt t p ≡ true → (1 ≤ p) × (p ≤ 40)
+listed-within t p e h = (go (ltb 0 p) refl, past (ltb 40 p) refl)
+  where
+    nobody : at t p ≡ none → ⊥
+    nobody q = false≢true (sym (ap isListed q) ∙ h)
+
+    go : (b : Bool) → ltb 0 p ≡ b → 1 ≤ p
+    go true l = ltb-true 0 p l
+    go false l = absurd (nobody (at-zero t p (ltb-false 0 p l)))
+
+    past : (b : Bool) → ltb 40 p ≡ b → p ≤ 40
+    past true l = absurd (nobody (at-past t p 40 e (ltb-true 40 p l)))
+    past false l = ltb-false 40 p l

@@ -1,5 +1,5 @@
 -- One board's record (01, "Boards and positions").
-use Prim.Native.Nat.{ℕ, _+_, _^_}
+use Prim.Native.Nat.{ℕ, _^_}
 use mathlib.Core.Bool.{Bool, _&&_, not}
 use lib.Dec.{eqb, leb, ltb}
 use Rattle.board.specs.declared.Node.{Node}

@@ -11,7 +11,7 @@ use Rattle.board.specs.Table.{listedAt}
 unfoldable pub round : ℕ → ℕ → List ℕ
 round k a = upFrom (a + 1) (k - a) ++ upFrom 1 (min a k)
 
--- the first listed position after a, going round from k to 1; 0 where nobody is listed (01, "Turn")
+-- the first listed position after a, going round from k to 1, with k at most forty; 0 where nobody is listed (01, "Turn")
 unfoldable pub nextListed : List Node → ℕ → ℕ → ℕ
 nextListed t k a = firstOr 0 (listedAt t) (round (min k 40) a)
 

@@ -1,9 +1,9 @@
 -- The table: the records of positions 1 to 40 (01, "Boards and positions").
-use Prim.Native.Nat.{ℕ, zero, suc, _+_, _-_}
-use mathlib.Core.Bool.{Bool, _&&_, not}
-use mathlib.Core.List.{List, _∷_, map}
+use Prim.Native.Nat.{ℕ, _-_}
+use mathlib.Core.Bool.{Bool}
+use mathlib.Core.List.{List, _∷_}
 use lib.ListN.{getD, set}
-use lib.Dec.{eqb, leb, ltb}
+use lib.Dec.{ltb}
 use Rattle.ground.specs.Choose.{choose}
 use Rattle.board.specs.declared.Node.{Node}
 use Rattle.board.specs.Node.{none, isListed}

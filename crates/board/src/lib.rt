@@ -5,7 +5,7 @@ ghost use Prim.Native.Nat.{_+_, _≤_, _<_};
 ghost use Rattle.ground.specs.Below.{firstOr, upFrom};
 ghost use Rattle.board.specs.Node.{none};
 ghost use Rattle.board.specs.Table.{at, put};
-ghost use Rattle.board.specs.Change.{newNode, owing, settled, heardOf, missing, renewing, oweAll};
+ghost use Rattle.board.specs.Change.{joinedNode, owe, told, heard, missed, renewed, oweAll};
 ghost use Rattle.board.specs.Wanted.{wants, wantedAt, lowestOf, highestListed, ofKindBelow, indexOf, someListed};
 ghost use Rattle.board.specs.Round.{nextListed};
 use ground::least;
@@ -87,7 +87,7 @@ pub fn put_at(table: Table, position: usize, node: Node) -> Table
 
 // The record of a board that joins anew. The list is owed to all afterwards, this board included.
 pub fn joined_node(kind: u8, mac: u64, session: u64) -> Node
-    ensures { λ r. ⌜ r ≡ newNode kind mac session ⌝ }
+    ensures { λ r. ⌜ r ≡ joinedNode kind mac session ⌝ }
 {
     Node {
         kind: kind,
@@ -100,7 +100,7 @@ pub fn joined_node(kind: u8, mac: u64, session: u64) -> Node
 
 // The record of a board to which the list is owed. A free position's record stays as it is.
 pub fn owe(node: Node) -> Node
-    ensures { λ r. ⌜ r ≡ owing node ⌝ }
+    ensures { λ r. ⌜ r ≡ owe node ⌝ }
 {
     let mut n = node;
     if n.kind != 0 {
@@ -112,7 +112,7 @@ pub fn owe(node: Node) -> Node
 
 // The record of a board that has been sent the list.
 pub fn told(node: Node) -> Node
-    ensures { λ r. ⌜ r ≡ settled node ⌝ }
+    ensures { λ r. ⌜ r ≡ told node ⌝ }
 {
     let mut n = node;
     n.owed = 0;
@@ -121,7 +121,7 @@ pub fn told(node: Node) -> Node
 
 // The record of a board of which a frame was accepted.
 pub fn heard(node: Node) -> Node
-    ensures { λ r. ⌜ r ≡ heardOf node ⌝ }
+    ensures { λ r. ⌜ r ≡ heard node ⌝ }
 {
     let mut n = node;
     n.misses = 0;
@@ -130,7 +130,7 @@ pub fn heard(node: Node) -> Node
 
 // The record of a board that did not answer.
 pub fn missed(node: Node) -> Node
-    ensures { λ r. ⌜ r ≡ missing node ⌝ }
+    ensures { λ r. ⌜ r ≡ missed node ⌝ }
 {
     let mut n = node;
     if n.misses < 255 {
@@ -142,7 +142,7 @@ pub fn missed(node: Node) -> Node
 
 // The record of a board that has another session.
 pub fn renewed(node: Node, session: u64) -> Node
-    ensures { λ r. ⌜ r ≡ renewing node session ⌝ }
+    ensures { λ r. ⌜ r ≡ renewed node session ⌝ }
 {
     let mut n = node;
     n.session = session;
@@ -151,7 +151,7 @@ pub fn renewed(node: Node, session: u64) -> Node
 
 // The table with a new board at a position.
 pub fn list_at(table: Table, position: usize, kind: u8, mac: u64, session: u64) -> Table
-    ensures { λ r. ⌜ r .nodes ≡ put (table .nodes) position (newNode kind mac session) ⌝ }
+    ensures { λ r. ⌜ r .nodes ≡ put (table .nodes) position (joinedNode kind mac session) ⌝ }
 {
     put_at(table, position, joined_node(kind, mac, session))
 }
@@ -165,7 +165,7 @@ pub fn clear_at(table: Table, position: usize) -> Table
 
 // The table with the list no longer owed at a position.
 pub fn settle_at(table: Table, position: usize) -> Table
-    ensures { λ r. ⌜ r .nodes ≡ put (table .nodes) position (settled (at (table .nodes) position)) ⌝ }
+    ensures { λ r. ⌜ r .nodes ≡ put (table .nodes) position (told (at (table .nodes) position)) ⌝ }
 {
     put_at(table, position, told(record_at(table, position)))
 }

@@ -1,3 +1,4 @@
+-- `board::clear_at` meets its contract: the blank record is put there.
 use mathlib.Core.Path.{refl, _∙_}
 use borrow.Author.Needs.{needs}
 use Rattle.board.proofs.clear_at.Statement.{statement}

@@ -1,3 +1,4 @@
+-- `board::list_at` meets its contract: the new board's record is put there.
 use mathlib.Core.Path.{refl, _∙_}
 use borrow.Author.Needs.{needs}
 use Rattle.board.proofs.list_at.Statement.{statement}

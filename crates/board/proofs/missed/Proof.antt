@@ -3,12 +3,12 @@ use Prim.Native.Nat.{ℕ, _+_, min}
 use native.Mathlib.Omega.{arith}
 use mathlib.Core.Path.{_≡_, refl}
 use Rattle.board.specs.declared.Node.{Node}
-use Rattle.board.specs.Change.{missing}
+use Rattle.board.specs.Change.{missed}
 use borrow.Author.Needs.{needs}
 use Rattle.board.proofs.missed.Statement.{statement}
 use Rattle.board.proofs.missed.Tie as tie
 
-one-more : (n : Node) (m : ℕ) → m ≡ min (n .misses + 1) 255 → record { kind = n .kind; mac = n .mac; session = n .session; misses = m; owed = n .owed } ≡ missing n
+one-more : (n : Node) (m : ℕ) → m ≡ min (n .misses + 1) 255 → record { kind = n .kind; mac = n .mac; session = n .session; misses = m; owed = n .owed } ≡ missed n
 one-more n m e = rw e refl
 
 add-n : tie.Need-add-n

@@ -2,16 +2,15 @@
 use Prim.Native.Nat.{ℕ}
 use mathlib.Core.Path.{_≡_, refl}
 use borrow.Author.Tests.{eq-eqb, ne-eqb}
-use mathlib.Core.Bool.{not}
 use Rattle.ground.specs.Choose.{choose}
 use Rattle.ground.proofs.Choices.{choose-yes, choose-no}
 use Rattle.board.specs.declared.Node.{Node}
 use Rattle.board.specs.Node.{isListed}
-use Rattle.board.specs.Change.{owing}
+use Rattle.board.specs.Change.{owe}
 use Rattle.board.proofs.owe.Statement.{statement}
 use Rattle.board.proofs.owe.Tie as tie
 
-marked : (n : Node) (m : ℕ) → m ≡ choose (isListed n) 1 (n .owed) → record { kind = n .kind; mac = n .mac; session = n .session; misses = n .misses; owed = m } ≡ owing n
+marked : (n : Node) (m : ℕ) → m ≡ choose (isListed n) 1 (n .owed) → record { kind = n .kind; mac = n .mac; session = n .session; misses = n .misses; owed = m } ≡ owe n
 marked n m e = rw e refl
 
 returns : tie.Need-returns

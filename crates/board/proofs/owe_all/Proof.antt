@@ -4,18 +4,18 @@ use native.Mathlib.Omega.{arith}
 use mathlib.Core.Path.{_≡_}
 use lib.ListN.{length, length-map}
 use Rattle.ground.proofs.Maps.{maps, mapTo, mapped-none, mapped-end}
-use Rattle.board.specs.Change.{owing, oweAll}
+use Rattle.board.specs.Change.{owe, oweAll}
 use Rattle.board.proofs.owe_all.Statement.{statement}
 use Rattle.board.proofs.owe_all.Tie as tie
 
 abbrev Inv-loop : tie.InvT-loop
-Inv-loop u₀ i₀ u i = (i ≤ 40) × (length (u₀ .nodes) ≡ 40) × (u .nodes ≡ mapTo owing i (u₀ .nodes))
+Inv-loop u₀ i₀ u i = (i ≤ 40) × (length (u₀ .nodes) ≡ 40) × (u .nodes ≡ mapTo owe i (u₀ .nodes))
 
 abbrev μ-loop : tie.MeasureT-loop
 μ-loop u₀ i₀ u i = 40 - i
 
 loop-holds : tie.Need-loop-holds Inv-loop μ-loop
-loop-holds c = (omega arith, simp length-map at (c .good .0 .1 .1 .0 .1 .0 .1), mapped-none owing _)
+loop-holds c = (omega arith, simp length-map at (c .good .0 .1 .1 .0 .1 .0 .1), mapped-none owe _)
 
 mul-owe : tie.Need-mul-owe Inv-loop μ-loop
 mul-owe c = search maps
@@ -43,7 +43,7 @@ loop-again c = search maps
 
 returns : tie.Need-returns Inv-loop μ-loop
 unfolding oweAll
-returns c = mapped-end owing _ 40 _ _ (c .before .loop .inv .2) (c .before .loop .inv .1) (omega arith)
+returns c = mapped-end owe _ 40 _ _ (c .before .loop .inv .2) (c .before .loop .inv .1) (omega arith)
 
 pub owe-all-spec : {M : Type 1} → statement M
 owe-all-spec =

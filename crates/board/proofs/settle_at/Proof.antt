@@ -1,3 +1,4 @@
+-- `board::settle_at` meets its contract: the record that was there is put back, owed no list.
 use mathlib.Core.Path.{refl, _∙_}
 use borrow.Author.Needs.{needs}
 use Rattle.board.proofs.settle_at.Statement.{statement}
