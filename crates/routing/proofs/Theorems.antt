@@ -2,37 +2,28 @@
 -- there is no such board or the board is the sender.
 use Prim.Native.Nat.{ℕ, _≤_, _<_, min}
 use native.Mathlib.Omega.{arith}
-use native.Mathlib.Decide.{ℕ-discrete, decLt}
+use native.Mathlib.Decide.{ℕ-discrete}
 use mathlib.Core.Path.{_≡_, refl, ap, sym, subst, _∙_}
 use mathlib.Core.Logic.{_⊎_, inl, inr}
 use mathlib.Core.List.{List, [], _∷_, _++_}
 use mathlib.Core.Bool.{Bool, true, false, _&&_, _||_, not, false≢true}
 use lib.ListN.{length}
 use lib.Dec.{eqb, leb, ltb}
-use borrow.Author.Tests.{eqb-true, eqb-false, eq-eqb, ne-eqb, ltb-true, leb-true, lt-ltb, le-ltb, le-leb}
+use borrow.Author.Tests.{eqb-true, eqb-false, eq-eqb, ne-eqb, ltb-true, leb-true, lt-ltb, le-leb}
 use Rattle.ground.specs.Choose.{choose}
-use Rattle.ground.specs.Below.{firstOr, among}
+use Rattle.ground.specs.Below.{among}
 use Rattle.ground.proofs.Choices.{and-left, and-right, both}
-use Rattle.ground.proofs.Firsts.{First, FirstCase}
+use Rattle.ground.proofs.Firsts.{FirstCase}
 use Rattle.ground.proofs.Picks.{first-passes, first-among, first-after}
 use Rattle.board.specs.declared.Node.{Node}
 use Rattle.board.specs.declared.Wanted.the-variants.{Kind}
-use Rattle.board.specs.Node.{isListed}
 use Rattle.board.specs.Table.{at, listedAt}
 use Rattle.board.specs.Wanted.{wantedAt, lowestOf}
-use Rattle.board.proofs.Positions.{at-past}
+use Rattle.board.proofs.Positions.{listed-within}
 use Rattle.board.proofs.LowestWanted.{lowest-case, lowest-found}
 use Rattle.routing.specs.Priority.{priority, dash}
 use Rattle.routing.specs.Route.{hasKind, priorityKind, socket, named, routeOf}
 use Rattle.routing.specs.Suits.{meant, Suits}
-
--- a listed position is within the table
-listed-within : (t : List Node) (p : ℕ) → length t ≡ 40 → listedAt t p ≡ true → p ≤ 40
-listed-within t p size h = go (decLt 40 p)
-  where
-    go : Dec (40 < p) → p ≤ 40
-    go (yes l) = absurd (false≢true (sym (ap isListed (at-past t p 40 size l)) ∙ h))
-    go (no n) = omega arith
 
 -- a listed position has a type other than 0
 listed-kind : (t : List Node) (p : ℕ) → listedAt t p ≡ true → at t p .kind ≡ 0 → ⊥
@@ -50,7 +41,7 @@ module _ (t : List Node) (k kind : ℕ) where
 
   lowest-any : (p : ℕ) → length t ≡ 40 → 1 ≤ p → p ≤ k → listedAt t p ≡ true → at t p .kind ≡ kind → 0 < lowestOf t (Kind kind) k
   lowest-any p size l w h e =
-      lowest-found t (Kind kind) k p (both (listedAt t p) (eqb (at t p .kind) kind) h (eq-eqb (at t p .kind) kind e)) l (omega (arith, listed-within t p size h)) .from
+      lowest-found t (Kind kind) k p (both (listedAt t p) (eqb (at t p .kind) kind) h (eq-eqb (at t p .kind) kind e)) l (omega (arith, listed-within t p size h .1)) .from
 
 -- no method but 1, 2 and 3 names a board
 named-other : (t : List Node) (k method parameter : ℕ) → (method ≡ 1 → ⊥) → (method ≡ 2 → ⊥) → (method ≡ 3 → ⊥) → named t k method parameter ≡ 0
