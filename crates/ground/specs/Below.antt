@@ -2,6 +2,7 @@
 use Prim.Native.Nat.{ℕ, zero, suc, _+_}
 use mathlib.Core.List.{List, [], _∷_}
 use mathlib.Core.Bool.{Bool, true, false, _&&_, _||_}
+use lib.Dec.{eqb}
 use Rattle.ground.specs.Choose.{choose}
 
 -- what a test adds to a count
@@ -33,6 +34,11 @@ upFrom a (suc n) = a ∷ upFrom (a + 1) n
 unfoldable pub firstOr : ℕ → (ℕ → Bool) → List ℕ → ℕ
 firstOr d p [] = d
 firstOr d p (x ∷ xs) = choose (p x) x (firstOr d p xs)
+
+-- a number is one of the list
+unfoldable pub among : ℕ → List ℕ → Bool
+among x [] = false
+among x (y ∷ ys) = eqb x y || among x ys
 
 -- the highest number from 1 to n of which the test holds, or 0 where it holds of none
 unfoldable pub highest : (ℕ → Bool) → ℕ → ℕ

@@ -3,35 +3,34 @@ use Prim.Native.Nat.{ℕ, zero, suc, _+_, _-_, _≤_, _<_}
 use native.Mathlib.Omega.{arith}
 use native.Mathlib.Numerals.{add-one}
 use mathlib.Core.Path.{_≡_, refl, ap, _∙_, sym}
-use mathlib.Core.Logic.{_⊎_, inl, inr}
-use mathlib.Core.List.{List, [], _∷_, _++_, map}
+use mathlib.Core.Logic.{inl, inr}
+use mathlib.Core.List.{List, [], _∷_, _++_}
 use mathlib.Core.Bool.{Bool, true, false, _&&_}
 use lib.ListN.{length, length-map, getD, set, take, drop, List·getD-map}
 use lib.Dec.{eqb, ltb}
-use borrow.Author.Needs.{needs}
 use borrow.Author.Tests.{lt-ltb, le-ltb, eq-eqb, ne-eqb}
-use Rattle.ground.specs.Below.{all, upFrom, highest}
+use Rattle.ground.specs.Below.{all, upFrom}
 use Rattle.ground.specs.Bytes.{laid}
 use Rattle.ground.proofs.Choices.{choose-yes, choose-no, and-yes, and-no}
 use Rattle.ground.proofs.Loops.{all-step, all-end}
-use Rattle.ground.proofs.Highest.{HighestCase, highest-case}
+use Rattle.ground.proofs.Highest.{HighestCase}
 use Rattle.ground.proofs.Runs.{run-length, run-at}
 use Rattle.ground.proofs.Fronts.{front-step, front-end}
 use Rattle.board.specs.declared.Node.{Node}
 use Rattle.board.specs.Node.{none}
 use Rattle.board.specs.Table.{at, listedAt}
 use Rattle.board.proofs.Positions.{at-position}
+use Rattle.board.proofs.LowestWanted.{highest-listed-case}
 use Rattle.board.specs.Wanted.{highestListed}
 use Rattle.refusal.specs.Refusal.{refuses, gives}
 use Rattle.refusal.specs.declared.Refusal.the-variants.{NoRoom}
 use Rattle.nodelist.specs.List.{kindAt, nodeList, listLength, written, output, sameByte, sameList}
 
--- no position past the table is listed
+-- the highest listed position is one of the table's
 pub highest-within : (t : List Node) → highestListed t ≤ 40
-unfolding highestListed
-highest-within t = go (highest-case (listedAt t) 40)
+highest-within t = go (highest-listed-case t)
   where
-    go : HighestCase (listedAt t) 40 (highest (listedAt t) 40) → highest (listedAt t) 40 ≤ 40
+    go : HighestCase (listedAt t) 40 (highestListed t) → highestListed t ≤ 40
     go (inl (none, e)) = omega arith
     go (inr f) = f .within
 

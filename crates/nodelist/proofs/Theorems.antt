@@ -1,21 +1,22 @@
 -- What a reader may rely on: each byte of the list, its length, and that comparing decides equality.
-use Prim.Native.Nat.{ℕ, zero, suc, _+_, _-_, _≤_, _<_}
+use Prim.Native.Nat.{ℕ, _-_, _≤_, _<_}
 use native.Mathlib.Omega.{arith}
 use native.Mathlib.Decide.{decLt}
 use mathlib.Core.Path.{_≡_, refl, ap, _∙_, sym}
-use mathlib.Core.Logic.{_⊎_, inl, inr}
-use mathlib.Core.List.{List, [], _∷_}
-use mathlib.Core.Bool.{Bool, true, false, _&&_, not, false≢true}
+use mathlib.Core.Logic.{inl, inr}
+use mathlib.Core.List.{List}
+use mathlib.Core.Bool.{Bool, true, false, not, false≢true}
 use lib.ListN.{length, getD, List·getD-eq-default}
 use lib.Seq.{ext-getD}
 use lib.Dec.{eqb}
 use borrow.Author.Tests.{eq-eqb, eqb-true}
-use Rattle.ground.specs.Below.{all, highest}
+use Rattle.ground.specs.Below.{all}
 use Rattle.ground.proofs.Choices.{and-left, and-right, both}
 use Rattle.ground.proofs.Loops.{all-at, all-of}
-use Rattle.ground.proofs.Highest.{HighestCase, highest-case}
+use Rattle.ground.proofs.Highest.{HighestCase}
 use Rattle.board.specs.declared.Node.{Node}
-use Rattle.board.specs.Table.{at, listedAt}
+use Rattle.board.specs.Table.{listedAt}
+use Rattle.board.proofs.LowestWanted.{highest-listed-case}
 use Rattle.board.specs.Wanted.{highestListed}
 use Rattle.nodelist.specs.List.{kindAt, nodeList, listLength, sameByte, sameList}
 use Rattle.nodelist.proofs.Bytes.{highest-within, list-size, list-byte}
@@ -28,12 +29,11 @@ free-kind t p h = eqb-true (kindAt t p) 0 (flipped (eqb (kindAt t p) 0) h)
     flipped true e = refl
     flipped false e = sym e
 
--- every listed position is within the list
-pub listed-within : (t : List Node) (p : ℕ) → p ≤ 40 → listedAt t p ≡ true → p ≤ highestListed t
-unfolding highestListed
-listed-within t p h e = go (highest-case (listedAt t) 40) (decLt (highest (listedAt t) 40) p)
+-- every listed position is in the list
+pub listed-in-list : (t : List Node) (p : ℕ) → p ≤ 40 → listedAt t p ≡ true → p ≤ highestListed t
+listed-in-list t p h e = go (highest-listed-case t) (decLt (highestListed t) p)
   where
-    go : HighestCase (listedAt t) 40 (highest (listedAt t) 40) → Dec (highest (listedAt t) 40 < p) → p ≤ highest (listedAt t) 40
+    go : HighestCase (listedAt t) 40 (highestListed t) → Dec (highestListed t < p) → p ≤ highestListed t
     go w (no l) = omega arith
     go (inl (none, zeroed)) (yes l) = absurd (false≢true (sym (none p (omega arith) h) ∙ e))
     go (inr f) (yes l) = absurd (false≢true (sym (f .above p l h) ∙ e))
@@ -44,7 +44,7 @@ byte-at internal t i l h = go (decLt i (listLength t))
   where
     past : (b : Bool) → listedAt t i ≡ b → (i < listLength t → ⊥) → listedAt t i ≡ false
     past false e n = e
-    past true e n = absurd (n (omega (arith, listed-within t i h e)))
+    past true e n = absurd (n (omega (arith, listed-in-list t i h e)))
 
     go : Dec (i < listLength t) → getD (nodeList internal t) i 0 ≡ kindAt t i
     go (yes k) = list-byte internal t i l k
@@ -57,10 +57,9 @@ byte-first internal t = refl
 
 -- the list ends at the highest listed position, or has byte 0 alone where nobody is listed
 pub ends-listed : (internal : ℕ) (t : List Node) → 1 < length (nodeList internal t) → listedAt t (length (nodeList internal t) - 1) ≡ true
-unfolding highestListed
-ends-listed internal t h = ap (listedAt t) (let e : length (nodeList internal t) - 1 ≡ highestListed t = omega (arith, list-size internal t) in e) ∙ go (highest-case (listedAt t) 40)
+ends-listed internal t h = ap (listedAt t) (let e : length (nodeList internal t) - 1 ≡ highestListed t = omega (arith, list-size internal t) in e) ∙ go (highest-listed-case t)
   where
-    go : HighestCase (listedAt t) 40 (highest (listedAt t) 40) → listedAt t (highest (listedAt t) 40) ≡ true
+    go : HighestCase (listedAt t) 40 (highestListed t) → listedAt t (highestListed t) ≡ true
     go (inl (none, zeroed)) = absurd (let z : ⊥ = omega (arith, list-size internal t) in z)
     go (inr f) = f .passes
 

@@ -1,9 +1,9 @@
 -- The contracts, as they stand in the source, leave one result for each input, and of the writer one content of the output.
-use mathlib.Core.Path.{_≡_, refl, ap, sym, _∙_}
-use mathlib.Core.List.{List, [], _∷_}
+use mathlib.Core.Path.{_≡_, ap, sym, _∙_}
+use mathlib.Core.List.{List}
 use mathlib.Core.Bool.{Bool}
-use native.Mathlib.Omega.{arith}
 use Prim.Native.Nat.{ℕ}
+use lib.ListN.{getD}
 use base.Fml.{Lft}
 use denote.Ref.{RefT, now}
 use Rattle.refusal.specs.Refusal.{Told}
@@ -18,7 +18,7 @@ use Rattle.nodelist.proofs.same_list.Reads as same-list
 
 -- two answers that say the same are the same
 pub same-told : (r q : Listing) → told r ≡ told q → r ≡ q
-same-told (Written m) (Written n) h = cc (ap (λ (t : Told). t .values) h)
+same-told (Written m) (Written n) h = ap Written (ap (λ (t : Told). getD (t .values) 0 0) h)
 same-told (Written m) (Refused q) h = absurd (not-zero q (sym (ap (λ (t : Told). t .number) h)))
 same-told (Refused r) (Written n) h = absurd (not-zero r (ap (λ (t : Told). t .number) h))
 same-told (Refused r) (Refused q) h = ap Refused (same-refused r q h)

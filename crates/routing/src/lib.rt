@@ -5,39 +5,34 @@ ghost use mathlib.Core.Path.{_≡_};
 ghost use Rattle.routing.specs.Priority.{priority};
 ghost use Rattle.routing.specs.Route.{priorityKind, socket, named, routeOf};
 
-// The node types of Table 3, and its dash.
-const FURNACE: u8 = 2;
+// The node types that Table 3 names, by its own abbreviations: furnace control, air handler, air conditioner, heat pump,
+// crossover device, zone controller; and its dash, which is no type.
+const IFC: u8 = 2;
 
-const AIR_HANDLER: u8 = 3;
+const AH: u8 = 3;
 
-const AIR_CONDITIONER: u8 = 4;
+const AC: u8 = 4;
 
-const HEAT_PUMP: u8 = 5;
+const HP: u8 = 5;
 
-const CROSSOVER: u8 = 9;
+const XOVER: u8 = 9;
 
-const ZONE_CONTROLLER: u8 = 21;
+const ZC: u8 = 21;
 
 const DASH: u8 = 0;
 
-// Table 3's rows, by control command.
-const HEAT: [u8; 5] = [ZONE_CONTROLLER, HEAT_PUMP, FURNACE, CROSSOVER, AIR_HANDLER];
+// Table 3: the priority list of each control command.
+const HEAT: [u8; 5] = [ZC, HP, IFC, XOVER, AH];
 
-const COOL: [u8; 5] = [
-    ZONE_CONTROLLER,
-    HEAT_PUMP,
-    AIR_CONDITIONER,
-    CROSSOVER,
-    FURNACE,
-];
+const COOL: [u8; 5] = [ZC, HP, AC, XOVER, IFC];
 
-const FAN: [u8; 5] = [ZONE_CONTROLLER, AIR_HANDLER, FURNACE, CROSSOVER, DASH];
+const FAN: [u8; 5] = [ZC, AH, IFC, XOVER, DASH];
 
-const EMERGENCY: [u8; 5] = [ZONE_CONTROLLER, AIR_HANDLER, FURNACE, CROSSOVER, DASH];
+const EMERGENCY: [u8; 5] = [ZC, AH, IFC, XOVER, DASH];
 
-const DEFROST: [u8; 5] = [ZONE_CONTROLLER, AIR_HANDLER, FURNACE, CROSSOVER, DASH];
+const DEFROST: [u8; 5] = [ZC, AH, IFC, XOVER, DASH];
 
-const AUX_HEAT: [u8; 5] = [ZONE_CONTROLLER, AIR_HANDLER, FURNACE, CROSSOVER, DASH];
+const AUX_HEAT: [u8; 5] = [ZC, AH, IFC, XOVER, DASH];
 
 const NO_ROW: [u8; 5] = [DASH, DASH, DASH, DASH, DASH];
 
