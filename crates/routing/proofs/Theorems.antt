@@ -21,8 +21,8 @@ use Rattle.board.specs.Table.{at, listedAt}
 use Rattle.board.specs.Wanted.{wantedAt, lowestOf}
 use Rattle.board.proofs.Positions.{listed-within}
 use Rattle.board.proofs.LowestWanted.{lowest-case, lowest-found}
-use Rattle.routing.specs.Priority.{priority, dash}
-use Rattle.routing.specs.Route.{hasKind, priorityKind, socket, named, routeOf}
+use Rattle.routing.specs.Priority.{priorityList, dash}
+use Rattle.routing.specs.Route.{hasKind, priorityKind, atSocket, namedPosition, routeOf}
 use Rattle.routing.specs.Suits.{meant, Suits}
 
 -- a listed position has a type other than 0
@@ -44,8 +44,8 @@ module _ (t : List Node) (k kind : ℕ) where
       lowest-found t (Kind kind) k p (both (listedAt t p) (eqb (at t p .kind) kind) h (eq-eqb (at t p .kind) kind e)) l (omega (arith, listed-within t p size h .1)) .from
 
 -- no method but 1, 2 and 3 names a board
-named-other : (t : List Node) (k method parameter : ℕ) → (method ≡ 1 → ⊥) → (method ≡ 2 → ⊥) → (method ≡ 3 → ⊥) → named t k method parameter ≡ 0
-unfolding named choose
+named-other : (t : List Node) (k method parameter : ℕ) → (method ≡ 1 → ⊥) → (method ≡ 2 → ⊥) → (method ≡ 3 → ⊥) → namedPosition t k method parameter ≡ 0
+unfolding namedPosition choose
 named-other t k method parameter a b c = rw (ne-eqb method 1 a, ne-eqb method 2 b, ne-eqb method 3 c) refl
 
 meant-other : (method parameter p kind : ℕ) → (method ≡ 1 → ⊥) → (method ≡ 2 → ⊥) → (method ≡ 3 → ⊥) → meant method parameter p kind ≡ false
@@ -53,23 +53,23 @@ unfolding meant choose
 meant-other method parameter p kind a b c = rw (ne-eqb method 1 a, ne-eqb method 2 b, ne-eqb method 3 c) refl
 
 -- the methods one by one: what is named suits
-suits-command : (t : List Node) (k code : ℕ) → 0 < named t k 1 code → Suits t k 1 code (named t k 1 code)
-unfolding named choose meant priorityKind
+suits-command : (t : List Node) (k code : ℕ) → 0 < namedPosition t k 1 code → Suits t k 1 code (namedPosition t k 1 code)
+unfolding namedPosition choose meant priorityKind
 suits-command t k code h = go (lowest-is t k (priorityKind t k code) h)
   where
     go : (listedAt t (lowestOf t (Kind (priorityKind t k code)) k) ≡ true) × (at t (lowestOf t (Kind (priorityKind t k code)) k) .kind ≡ priorityKind t k code) × (lowestOf t (Kind (priorityKind t k code)) k ≤ k) → Suits t k 1 code (lowestOf t (Kind (priorityKind t k code)) k)
     go (listed, kind, within) =
-        record { from = h; within = within; listed = listed; meets = rw kind (first-among 0 (hasKind t k) (priority code) (λ e. listed-kind t (lowestOf t (Kind (priorityKind t k code)) k) listed (kind ∙ e))) }
+        record { from = h; within = within; listed = listed; meets = rw kind (first-among 0 (hasKind t k) (priorityList code) (λ e. listed-kind t (lowestOf t (Kind (priorityKind t k code)) k) listed (kind ∙ e))) }
 
-suits-kind : (t : List Node) (k kind : ℕ) → 0 < named t k 2 kind → Suits t k 2 kind (named t k 2 kind)
-unfolding named choose meant
+suits-kind : (t : List Node) (k kind : ℕ) → 0 < namedPosition t k 2 kind → Suits t k 2 kind (namedPosition t k 2 kind)
+unfolding namedPosition choose meant
 suits-kind t k kind h = go (lowest-is t k kind h)
   where
     go : (listedAt t (lowestOf t (Kind kind) k) ≡ true) × (at t (lowestOf t (Kind kind) k) .kind ≡ kind) × (lowestOf t (Kind kind) k ≤ k) → Suits t k 2 kind (lowestOf t (Kind kind) k)
     go (listed, same, within) = record { from = h; within = within; listed = listed; meets = eq-eqb (at t (lowestOf t (Kind kind) k) .kind) kind same }
 
-suits-socket : (t : List Node) (k p : ℕ) → 0 < named t k 3 p → Suits t k 3 p (named t k 3 p)
-unfolding named choose meant socket
+suits-socket : (t : List Node) (k p : ℕ) → 0 < namedPosition t k 3 p → Suits t k 3 p (namedPosition t k 3 p)
+unfolding namedPosition choose meant atSocket
 suits-socket t k p h = go (ltb 0 p) refl (leb p k) refl (listedAt t p) refl h
   where
     go : (a : Bool) → ltb 0 p ≡ a → (b : Bool) → leb p k ≡ b → (c : Bool) → listedAt t p ≡ c → 0 < choose (a && b && c) p 0 → Suits t k 3 p (choose (a && b && c) p 0)
@@ -79,22 +79,22 @@ suits-socket t k p h = go (ltb 0 p) refl (leb p k) refl (listedAt t p) refl h
     go false e b f c g l = absurd (let z : ⊥ = omega arith in z)
 
 -- and where nothing is named nothing suits
-none-command : (t : List Node) (k code p : ℕ) → length t ≡ 40 → named t k 1 code ≡ 0 → Suits t k 1 code p → ⊥
-unfolding named choose meant priorityKind hasKind
+none-command : (t : List Node) (k code p : ℕ) → length t ≡ 40 → namedPosition t k 1 code ≡ 0 → Suits t k 1 code p → ⊥
+unfolding namedPosition choose meant priorityKind hasKind
 none-command t k code p size z s =
     let found : ltb 0 (lowestOf t (Kind (priorityKind t k code)) k) ≡ true =
-    first-passes 0 (hasKind t k) (priority code) (at t p .kind) (s .meets) (lt-ltb 0 (lowestOf t (Kind (at t p .kind)) k) (lowest-any t k (at t p .kind) p size (s .from) (s .within) (s .listed) refl))
+    first-passes 0 (hasKind t k) (priorityList code) (at t p .kind) (s .meets) (lt-ltb 0 (lowestOf t (Kind (at t p .kind)) k) (lowest-any t k (at t p .kind) p size (s .from) (s .within) (s .listed) refl))
     in
     let l : 0 < lowestOf t (Kind (priorityKind t k code)) k = ltb-true 0 (lowestOf t (Kind (priorityKind t k code)) k) found in
     omega arith
 
-none-kind : (t : List Node) (k kind p : ℕ) → length t ≡ 40 → named t k 2 kind ≡ 0 → Suits t k 2 kind p → ⊥
-unfolding named choose meant
+none-kind : (t : List Node) (k kind p : ℕ) → length t ≡ 40 → namedPosition t k 2 kind ≡ 0 → Suits t k 2 kind p → ⊥
+unfolding namedPosition choose meant
 none-kind t k kind p size z s =
     let l : 0 < lowestOf t (Kind kind) k = lowest-any t k kind p size (s .from) (s .within) (s .listed) (eqb-true (at t p .kind) kind (s .meets)) in omega arith
 
-none-socket : (t : List Node) (k q p : ℕ) → named t k 3 q ≡ 0 → Suits t k 3 q p → ⊥
-unfolding named choose meant socket
+none-socket : (t : List Node) (k q p : ℕ) → namedPosition t k 3 q ≡ 0 → Suits t k 3 q p → ⊥
+unfolding namedPosition choose meant atSocket
 none-socket t k q p z s = go (subst (Suits t k 3 q) (eqb-true p q (s .meets)) s)
   where
     tested : Suits t k 3 q q → (ltb 0 q && leb q k && listedAt t q) ≡ true
@@ -114,79 +114,79 @@ by-method P method one two three other = go (ℕ-discrete method 1) (ℕ-discret
     go (no a) (no b) (no c) = other a b c
 
 -- what a request names suits, and where it names nothing no board does
-pub named-suits : (t : List Node) (k method parameter : ℕ) → 0 < named t k method parameter → Suits t k method parameter (named t k method parameter)
+pub named-suits : (t : List Node) (k method parameter : ℕ) → 0 < namedPosition t k method parameter → Suits t k method parameter (namedPosition t k method parameter)
 named-suits t k method parameter =
-    by-method (λ (m : ℕ). 0 < named t k m parameter → Suits t k m parameter (named t k m parameter)) method (suits-command t k parameter) (suits-kind t k parameter) (suits-socket t k parameter)
+    by-method (λ (m : ℕ). 0 < namedPosition t k m parameter → Suits t k m parameter (namedPosition t k m parameter)) method (suits-command t k parameter) (suits-kind t k parameter) (suits-socket t k parameter)
     (λ a b c h. absurd (let z : ⊥ = omega (arith, named-other t k method parameter a b c) in z))
 
-pub none-suits : (t : List Node) (k method parameter p : ℕ) → length t ≡ 40 → named t k method parameter ≡ 0 → Suits t k method parameter p → ⊥
+pub none-suits : (t : List Node) (k method parameter p : ℕ) → length t ≡ 40 → namedPosition t k method parameter ≡ 0 → Suits t k method parameter p → ⊥
 none-suits t k method parameter p size =
-    by-method (λ (m : ℕ). named t k m parameter ≡ 0 → Suits t k m parameter p → ⊥) method (none-command t k parameter p size) (none-kind t k parameter p size) (none-socket t k parameter p)
+    by-method (λ (m : ℕ). namedPosition t k m parameter ≡ 0 → Suits t k m parameter p → ⊥) method (none-command t k parameter p size) (none-kind t k parameter p size) (none-socket t k parameter p)
     (λ a b c z s. false≢true (sym (meant-other method parameter p (at t p .kind) a b c) ∙ s .meets))
 
 -- a request is discarded where it names nothing, and where it names its sender; and only there
-unrouted : (t : List Node) (k sender method parameter : ℕ) → routeOf t k sender method parameter ≡ 0 → (named t k method parameter ≡ 0) ⊎ (named t k method parameter ≡ sender)
+unrouted : (t : List Node) (k sender method parameter : ℕ) → routeOf t k sender method parameter ≡ 0 → (namedPosition t k method parameter ≡ 0) ⊎ (namedPosition t k method parameter ≡ sender)
 unfolding routeOf choose
-unrouted t k sender method parameter h = go (eqb (named t k method parameter) sender) refl h
+unrouted t k sender method parameter h = go (eqb (namedPosition t k method parameter) sender) refl h
   where
-    go : (b : Bool) → eqb (named t k method parameter) sender ≡ b → choose b 0 (named t k method parameter) ≡ 0 → (named t k method parameter ≡ 0) ⊎ (named t k method parameter ≡ sender)
-    go true e z = inr (eqb-true (named t k method parameter) sender e)
+    go : (b : Bool) → eqb (namedPosition t k method parameter) sender ≡ b → choose b 0 (namedPosition t k method parameter) ≡ 0 → (namedPosition t k method parameter ≡ 0) ⊎ (namedPosition t k method parameter ≡ sender)
+    go true e z = inr (eqb-true (namedPosition t k method parameter) sender e)
     go false e z = inl z
 
-routes-none : (t : List Node) (k sender method parameter : ℕ) → (named t k method parameter ≡ 0) ⊎ (named t k method parameter ≡ sender) → routeOf t k sender method parameter ≡ 0
+routes-none : (t : List Node) (k sender method parameter : ℕ) → (namedPosition t k method parameter ≡ 0) ⊎ (namedPosition t k method parameter ≡ sender) → routeOf t k sender method parameter ≡ 0
 unfolding routeOf choose
-routes-none t k sender method parameter (inr e) = rw (eq-eqb (named t k method parameter) sender e) refl
-routes-none t k sender method parameter (inl z) = go (eqb (named t k method parameter) sender)
+routes-none t k sender method parameter (inr e) = rw (eq-eqb (namedPosition t k method parameter) sender e) refl
+routes-none t k sender method parameter (inl z) = go (eqb (namedPosition t k method parameter) sender)
   where
-    go : (b : Bool) → choose b 0 (named t k method parameter) ≡ 0
+    go : (b : Bool) → choose b 0 (namedPosition t k method parameter) ≡ 0
     go true = refl
     go false = z
 
 -- a request is discarded exactly where there is no such board, or it is the sender itself (01, "Steps")
-pub discarded-only : (t : List Node) (k sender method parameter : ℕ) → length t ≡ 40 → routeOf t k sender method parameter ≡ 0 → ((p : ℕ) → Suits t k method parameter p → ⊥) ⊎ (named t k method parameter ≡ sender)
+pub discarded-only : (t : List Node) (k sender method parameter : ℕ) → length t ≡ 40 → routeOf t k sender method parameter ≡ 0 → ((p : ℕ) → Suits t k method parameter p → ⊥) ⊎ (namedPosition t k method parameter ≡ sender)
 discarded-only t k sender method parameter size h = go (unrouted t k sender method parameter h)
   where
-    go : (named t k method parameter ≡ 0) ⊎ (named t k method parameter ≡ sender) → ((p : ℕ) → Suits t k method parameter p → ⊥) ⊎ (named t k method parameter ≡ sender)
+    go : (namedPosition t k method parameter ≡ 0) ⊎ (namedPosition t k method parameter ≡ sender) → ((p : ℕ) → Suits t k method parameter p → ⊥) ⊎ (namedPosition t k method parameter ≡ sender)
     go (inl z) = inl (λ p s. none-suits t k method parameter p size z s)
     go (inr e) = inr e
 
-pub discarded-there : (t : List Node) (k sender method parameter : ℕ) → ((p : ℕ) → Suits t k method parameter p → ⊥) ⊎ (named t k method parameter ≡ sender) → routeOf t k sender method parameter ≡ 0
+pub discarded-there : (t : List Node) (k sender method parameter : ℕ) → ((p : ℕ) → Suits t k method parameter p → ⊥) ⊎ (namedPosition t k method parameter ≡ sender) → routeOf t k sender method parameter ≡ 0
 discarded-there t k sender method parameter (inr e) = routes-none t k sender method parameter (inr e)
-discarded-there t k sender method parameter (inl none) = go (ℕ-discrete (named t k method parameter) 0)
+discarded-there t k sender method parameter (inl none) = go (ℕ-discrete (namedPosition t k method parameter) 0)
   where
-    go : Dec (named t k method parameter ≡ 0) → routeOf t k sender method parameter ≡ 0
+    go : Dec (namedPosition t k method parameter ≡ 0) → routeOf t k sender method parameter ≡ 0
     go (yes z) = routes-none t k sender method parameter (inl z)
-    go (no n) = absurd (none (named t k method parameter) (named-suits t k method parameter (omega arith)))
+    go (no n) = absurd (none (namedPosition t k method parameter) (named-suits t k method parameter (omega arith)))
 
 -- a request that is not discarded goes to the board that it names, which is not its sender
-pub route-named : (t : List Node) (k sender method parameter : ℕ) → 0 < routeOf t k sender method parameter → (routeOf t k sender method parameter ≡ named t k method parameter) × (named t k method parameter ≡ sender → ⊥)
+pub route-named : (t : List Node) (k sender method parameter : ℕ) → 0 < routeOf t k sender method parameter → (routeOf t k sender method parameter ≡ namedPosition t k method parameter) × (namedPosition t k method parameter ≡ sender → ⊥)
 unfolding routeOf choose
-route-named t k sender method parameter h = go (eqb (named t k method parameter) sender) refl h
+route-named t k sender method parameter h = go (eqb (namedPosition t k method parameter) sender) refl h
   where
-    go : (b : Bool) → eqb (named t k method parameter) sender ≡ b → 0 < choose b 0 (named t k method parameter) → (choose b 0 (named t k method parameter) ≡ named t k method parameter) × (named t k method parameter ≡ sender → ⊥)
+    go : (b : Bool) → eqb (namedPosition t k method parameter) sender ≡ b → 0 < choose b 0 (namedPosition t k method parameter) → (choose b 0 (namedPosition t k method parameter) ≡ namedPosition t k method parameter) × (namedPosition t k method parameter ≡ sender → ⊥)
     go true e l = absurd (let z : ⊥ = omega arith in z)
-    go false e l = (refl, eqb-false (named t k method parameter) sender e)
+    go false e l = (refl, eqb-false (namedPosition t k method parameter) sender e)
 
 -- the route is 0, or a board that suits and is not the sender
 pub route-suits : (t : List Node) (k sender method parameter : ℕ) → 0 < routeOf t k sender method parameter → (Suits t k method parameter (routeOf t k sender method parameter)) × (routeOf t k sender method parameter ≡ sender → ⊥)
 route-suits t k sender method parameter h = go (route-named t k sender method parameter h)
   where
-    go : (routeOf t k sender method parameter ≡ named t k method parameter) × (named t k method parameter ≡ sender → ⊥) → (Suits t k method parameter (routeOf t k sender method parameter)) × (routeOf t k sender method parameter ≡ sender → ⊥)
+    go : (routeOf t k sender method parameter ≡ namedPosition t k method parameter) × (namedPosition t k method parameter ≡ sender → ⊥) → (Suits t k method parameter (routeOf t k sender method parameter)) × (routeOf t k sender method parameter ≡ sender → ⊥)
     go (e, apart) = (rw e (named-suits t k method parameter (omega arith)), λ q. apart (sym e ∙ q))
 
--- by control command, the first type of the row of which a board is listed is taken
-pub command-order : (t : List Node) (k code : ℕ) (before after : List ℕ) (kind : ℕ) → priority code ≡ before ++ kind ∷ after → ((other : ℕ) → among other before ≡ true → hasKind t k other ≡ false) → hasKind t k kind ≡ true → named t k 1 code ≡ lowestOf t (Kind kind) k
-unfolding named choose priorityKind
+-- by control command, the first type of the list of which a board is listed is taken
+pub command-order : (t : List Node) (k code : ℕ) (before after : List ℕ) (kind : ℕ) → priorityList code ≡ before ++ kind ∷ after → ((other : ℕ) → among other before ≡ true → hasKind t k other ≡ false) → hasKind t k kind ≡ true → namedPosition t k 1 code ≡ lowestOf t (Kind kind) k
+unfolding namedPosition choose priorityKind
 command-order t k code before after kind e none h = rw (e, first-after 0 (hasKind t k) before after kind none h) refl
 
 -- and where the lowest board of that type is the sender the request is discarded: no later type is tried
-pub next-not-tried : (t : List Node) (k code : ℕ) (before after : List ℕ) (kind : ℕ) → priority code ≡ before ++ kind ∷ after → ((other : ℕ) → among other before ≡ true → hasKind t k other ≡ false) → hasKind t k kind ≡ true → routeOf t k (lowestOf t (Kind kind) k) 1 code ≡ 0
+pub next-not-tried : (t : List Node) (k code : ℕ) (before after : List ℕ) (kind : ℕ) → priorityList code ≡ before ++ kind ∷ after → ((other : ℕ) → among other before ≡ true → hasKind t k other ≡ false) → hasKind t k kind ≡ true → routeOf t k (lowestOf t (Kind kind) k) 1 code ≡ 0
 next-not-tried t k code before after kind e none h = routes-none t k (lowestOf t (Kind kind) k) 1 code (inr (command-order t k code before after kind e none h))
 
--- the row of a code outside Table 3
-no-row : (code : ℕ) → (code < 100) ⊎ (105 < code) → priority code ≡ dash ∷ dash ∷ dash ∷ dash ∷ dash ∷ []
-unfolding priority choose
-no-row code h = rw (differs 100 (omega arith) (omega arith), differs 101 (omega arith) (omega arith), differs 102 (omega arith) (omega arith), differs 103 (omega arith) (omega arith), differs 104 (omega arith) (omega arith), differs 105 (omega arith) (omega arith)) refl
+-- the list of a code outside Table 3
+no-list : (code : ℕ) → (code < 100) ⊎ (105 < code) → priorityList code ≡ dash ∷ dash ∷ dash ∷ dash ∷ dash ∷ []
+unfolding priorityList choose
+no-list code h = rw (differs 100 (omega arith) (omega arith), differs 101 (omega arith) (omega arith), differs 102 (omega arith) (omega arith), differs 103 (omega arith) (omega arith), differs 104 (omega arith) (omega arith), differs 105 (omega arith) (omega arith)) refl
   where
     apart : (n : ℕ) → 100 ≤ n → n ≤ 105 → (code < 100) ⊎ (105 < code) → code ≡ n → ⊥
     apart n a b (inl l) e = omega arith
@@ -195,14 +195,14 @@ no-row code h = rw (differs 100 (omega arith) (omega arith), differs 101 (omega 
     differs : (n : ℕ) → 100 ≤ n → n ≤ 105 → eqb code n ≡ false
     differs n a b = ne-eqb code n (apart n a b h)
 
--- type 0, a code that has no row, and a socket outside 1 to k name no board
+-- type 0, a code that has no list, and a socket outside 1 to k name no board
 pub no-kind : (t : List Node) (k sender : ℕ) → routeOf t k sender 2 0 ≡ 0
 unfolding meant choose
 no-kind t k sender = discarded-there t k sender 2 0 (inl (λ p s. listed-kind t p (s .listed) (eqb-true (at t p .kind) 0 (s .meets))))
 
 pub no-code : (t : List Node) (k sender code : ℕ) → (code < 100) ⊎ (105 < code) → routeOf t k sender 1 code ≡ 0
 unfolding meant choose among
-no-code t k sender code h = discarded-there t k sender 1 code (inl (λ p s. listed-kind t p (s .listed) (only (at t p .kind) (rw (no-row code h) at (s .meets)))))
+no-code t k sender code h = discarded-there t k sender 1 code (inl (λ p s. listed-kind t p (s .listed) (only (at t p .kind) (rw (no-list code h) at (s .meets)))))
   where
     only : (x : ℕ) → among x (dash ∷ dash ∷ dash ∷ dash ∷ dash ∷ []) ≡ true → x ≡ 0
     only x a = go (eqb x 0) refl a

@@ -27,9 +27,9 @@ zc = 21
 abbrev pub dash : ℕ
 dash = 0
 
--- the row of a control command code (000, Table 3); a code that has no row names no type
-unfoldable pub priority : ℕ → List ℕ
-priority code =
+-- the list of a control command code (000, Table 3); a code that has no list names no type
+unfoldable pub priorityList : ℕ → List ℕ
+priorityList code =
     choose (eqb code 100) (zc ∷ hp ∷ ifc ∷ xover ∷ ah ∷ [])
     (choose (eqb code 101) (zc ∷ hp ∷ ac ∷ xover ∷ ifc ∷ [])
     (choose (eqb code 102) (zc ∷ ah ∷ ifc ∷ xover ∷ dash ∷ [])

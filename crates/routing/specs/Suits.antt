@@ -8,12 +8,12 @@ use Rattle.ground.specs.Choose.{choose}
 use Rattle.ground.specs.Below.{among}
 use Rattle.board.specs.declared.Node.{Node}
 use Rattle.board.specs.Table.{at, listedAt}
-use Rattle.routing.specs.Priority.{priority}
+use Rattle.routing.specs.Priority.{priorityList}
 
--- a board of this type at position p is one that the method and parameter 1 name: by its type's place in the command's row, by its type, by its socket (000, 6.3.2 to 6.3.4)
+-- a board of this type at position p is one that the method and parameter 1 name: by its type's place in the command's list, by its type, by its socket (000, 6.3.2 to 6.3.4)
 unfoldable pub meant : ℕ → ℕ → ℕ → ℕ → Bool
 meant method parameter p kind =
-    choose (eqb method 1) (among kind (priority parameter))
+    choose (eqb method 1) (among kind (priorityList parameter))
     (choose (eqb method 2) (eqb kind parameter)
     (choose (eqb method 3) (eqb p parameter) false))
 

@@ -2,8 +2,8 @@
 use board::Table;
 use board::Wanted;
 ghost use mathlib.Core.Path.{_≡_};
-ghost use Rattle.routing.specs.Priority.{priority};
-ghost use Rattle.routing.specs.Route.{priorityKind, socket, named, routeOf};
+ghost use Rattle.routing.specs.Priority.{priorityList};
+ghost use Rattle.routing.specs.Route.{priorityKind, atSocket, namedPosition, routeOf};
 
 // The node types that Table 3 names, by its own abbreviations: furnace control, air handler, air conditioner, heat pump,
 // crossover device, zone controller; and its dash, which is no type.
@@ -34,11 +34,11 @@ const DEFROST: [u8; 5] = [ZC, AH, IFC, XOVER, DASH];
 
 const AUX_HEAT: [u8; 5] = [ZC, AH, IFC, XOVER, DASH];
 
-const NO_ROW: [u8; 5] = [DASH, DASH, DASH, DASH, DASH];
+const NO_LIST: [u8; 5] = [DASH, DASH, DASH, DASH, DASH];
 
-// The row of a control command code.
-fn row_of(code: u8) -> [u8; 5]
-    ensures { λ r. ⌜ r ≡ priority code ⌝ }
+// The priority list of a control command code.
+fn priority_list(code: u8) -> [u8; 5]
+    ensures { λ r. ⌜ r ≡ priorityList code ⌝ }
 {
     match code {
         100 => HEAT,
@@ -47,18 +47,18 @@ fn row_of(code: u8) -> [u8; 5]
         103 => EMERGENCY,
         104 => DEFROST,
         105 => AUX_HEAT,
-        _ => NO_ROW,
+        _ => NO_LIST,
     }
 }
 
-// The first type of a control command's row of which a board is listed; 0 for none.
+// The first type of a control command's priority list of which a board is listed; 0 for none.
 fn priority_kind(table: Table, k: usize, code: u8) -> u8
     ensures { λ r. ⌜ r ≡ priorityKind (table .nodes) k code ⌝ }
 {
-    let row = row_of(code);
+    let kinds = priority_list(code);
     let mut i: usize = 0;
     while i < 5 {
-        let kind = row[i];
+        let kind = kinds[i];
         if 0 < board::lowest(table, Wanted::Kind(kind), k) {
             return kind;
         }
@@ -69,7 +69,7 @@ fn priority_kind(table: Table, k: usize, code: u8) -> u8
 
 // A socket's position, where a board is listed there; 0 where not.
 fn at_socket(table: Table, k: usize, position: usize) -> usize
-    ensures { λ r. ⌜ r ≡ socket (table .nodes) k position ⌝ }
+    ensures { λ r. ⌜ r ≡ atSocket (table .nodes) k position ⌝ }
 {
     let node = board::record_at(table, position);
     if (0 < position) & (position <= k) & (node.kind != 0) {
@@ -81,7 +81,7 @@ fn at_socket(table: Table, k: usize, position: usize) -> usize
 
 // The position that a method and parameter 1 name; 0 for none.
 fn named_position(table: Table, k: usize, method: u8, parameter: u8) -> usize
-    ensures { λ r. ⌜ r ≡ named (table .nodes) k method parameter ⌝ }
+    ensures { λ r. ⌜ r ≡ namedPosition (table .nodes) k method parameter ⌝ }
 {
     match method {
         1 => board::lowest(table, Wanted::Kind(priority_kind(table, k, parameter)), k),

@@ -6,7 +6,7 @@ use borrow.Author.Needs.{needs}
 use Rattle.ground.proofs.Choices.{yes, no}
 use Rattle.board.specs.declared.Node.{Node}
 use Rattle.board.specs.Node.{isListed}
-use Rattle.routing.specs.Route.{socket}
+use Rattle.routing.specs.Route.{atSocket}
 use Rattle.routing.proofs.at_socket.Statement.{statement}
 use Rattle.routing.proofs.at_socket.Tie as tie
 
@@ -14,11 +14,11 @@ record-at-requires : tie.Need-record-at-requires
 record-at-requires c κs = search needs
 
 returns : tie.Need-returns
-unfolding socket
+unfolding atSocket
 returns c = yes _ (ap (λ (n : Node). ltb 0 (c .before .before .before .args .position) && leb (c .before .before .before .args .position) (c .before .before .before .args .k) && isListed n) (c .before .before .record-at .ensures)) (c .if1 .taken) refl
 
 returns-2 : tie.Need-returns-2
-unfolding socket
+unfolding atSocket
 returns-2 c = no _ (ap (λ (n : Node). ltb 0 (c .before .before .before .args .position) && leb (c .before .before .before .args .position) (c .before .before .before .args .k) && isListed n) (c .before .before .record-at .ensures)) (c .if1 .left) refl
 
 pub at-socket-spec : {M : Type 1} → statement M

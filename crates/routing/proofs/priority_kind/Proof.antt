@@ -1,24 +1,24 @@
--- `routing::priority_kind` meets its contract: with the first i types of the row absent, the type is the first of the rest.
+-- `routing::priority_kind` meets its contract: with the first i types of the list absent, the type is the first of the rest.
 use Prim.Native.Nat.{_-_, _≤_}
 use mathlib.Core.Path.{_≡_}
 use lib.ListN.{length}
 use borrow.Author.Needs.{needs}
 use Rattle.routing.specs.Route.{priorityKind}
-use Rattle.routing.proofs.Rows.{restKind, rest-start, rest-hit, rest-miss, rest-none}
+use Rattle.routing.proofs.Lists.{restKind, rest-start, rest-hit, rest-miss, rest-none}
 use Rattle.routing.proofs.priority_kind.Statement.{statement}
 use Rattle.routing.proofs.priority_kind.Tie as tie
 
 abbrev Inv-loop : tie.InvT-loop
-Inv-loop table k code row i₀ i = (i ≤ 5) × (length row ≡ 5) × (priorityKind (table .nodes) k code ≡ restKind (table .nodes) k row i)
+Inv-loop table k code kinds i₀ i = (i ≤ 5) × (length kinds ≡ 5) × (priorityKind (table .nodes) k code ≡ restKind (table .nodes) k kinds i)
 
 abbrev μ-loop : tie.MeasureT-loop
-μ-loop table k code row i₀ i = 5 - i
+μ-loop table k code kinds i₀ i = 5 - i
 
-row-of-requires : tie.Need-row-of-requires Inv-loop μ-loop
-row-of-requires c κs = search needs
+priority-list-requires : tie.Need-priority-list-requires Inv-loop μ-loop
+priority-list-requires c κs = search needs
 
 loop-holds : tie.Need-loop-holds Inv-loop μ-loop
-loop-holds c = (search needs, search needs, rest-start _ _ _ (c .row-of .ensures))
+loop-holds c = (search needs, search needs, rest-start _ _ _ (c .priority-list .ensures))
 
 array-read-kind : tie.Need-array-read-kind Inv-loop μ-loop
 array-read-kind c = search needs
@@ -47,7 +47,7 @@ priority-kind-spec =
     (tie.spec
     Inv-loop
     μ-loop
-    row-of-requires
+    priority-list-requires
     loop-holds
     array-read-kind
     lowest-requires

@@ -11,7 +11,7 @@ use Rattle.ground.proofs.Picks.{pick-hit, pick-miss, pick-none}
 use Rattle.board.specs.declared.Node.{Node}
 use Rattle.board.specs.declared.Wanted.the-variants.{Kind}
 use Rattle.board.specs.Wanted.{lowestOf}
-use Rattle.routing.specs.Priority.{priority}
+use Rattle.routing.specs.Priority.{priorityList}
 use Rattle.routing.specs.Route.{hasKind, priorityKind}
 
 -- of a type, what the lowest position says
@@ -23,22 +23,22 @@ pub kind-absent : (t : List Node) (k kind : ℕ) {p : ℕ} → p ≡ lowestOf t 
 unfolding hasKind
 kind-absent t k kind e h = sym (le-ltb 0 (lowestOf t (Kind kind) k) (omega arith))
 
--- the rest of a row, where the types before i are absent
+-- the rest of a list, where the types before i are absent
 unfoldable pub restKind : List Node → ℕ → List ℕ → ℕ → ℕ
-restKind t k row i = firstOr 0 (hasKind t k) (drop i row)
+restKind t k kinds i = firstOr 0 (hasKind t k) (drop i kinds)
 
-pub rest-start : (t : List Node) (k code : ℕ) {row : List ℕ} → row ≡ priority code → priorityKind t k code ≡ restKind t k row 0
+pub rest-start : (t : List Node) (k code : ℕ) {kinds : List ℕ} → kinds ≡ priorityList code → priorityKind t k code ≡ restKind t k kinds 0
 unfolding priorityKind restKind
 rest-start t k code e = rw e refl
 
-pub rest-hit : (t : List Node) (k : ℕ) (row : List ℕ) (i : ℕ) {s p : ℕ} → s ≡ restKind t k row i → i < length row → p ≡ lowestOf t (Kind (getD row i 0)) k → 0 < p → getD row i 0 ≡ s
+pub rest-hit : (t : List Node) (k : ℕ) (kinds : List ℕ) (i : ℕ) {s p : ℕ} → s ≡ restKind t k kinds i → i < length kinds → p ≡ lowestOf t (Kind (getD kinds i 0)) k → 0 < p → getD kinds i 0 ≡ s
 unfolding restKind
-rest-hit t k row i h l e q = pick-hit 0 (hasKind t k) row i _ h l (kind-listed t k (getD row i 0) e q) refl
+rest-hit t k kinds i h l e q = pick-hit 0 (hasKind t k) kinds i _ h l (kind-listed t k (getD kinds i 0) e q) refl
 
-pub rest-miss : (t : List Node) (k : ℕ) (row : List ℕ) (i : ℕ) {s p : ℕ} → s ≡ restKind t k row i → i < length row → p ≡ lowestOf t (Kind (getD row i 0)) k → p ≤ 0 → s ≡ restKind t k row (i + 1)
+pub rest-miss : (t : List Node) (k : ℕ) (kinds : List ℕ) (i : ℕ) {s p : ℕ} → s ≡ restKind t k kinds i → i < length kinds → p ≡ lowestOf t (Kind (getD kinds i 0)) k → p ≤ 0 → s ≡ restKind t k kinds (i + 1)
 unfolding restKind
-rest-miss t k row i h l e q = pick-miss 0 (hasKind t k) row i _ h l (kind-absent t k (getD row i 0) e q) refl
+rest-miss t k kinds i h l e q = pick-miss 0 (hasKind t k) kinds i _ h l (kind-absent t k (getD kinds i 0) e q) refl
 
-pub rest-none : (t : List Node) (k : ℕ) (row : List ℕ) (i : ℕ) {s : ℕ} → s ≡ restKind t k row i → length row ≤ i → 0 ≡ s
+pub rest-none : (t : List Node) (k : ℕ) (kinds : List ℕ) (i : ℕ) {s : ℕ} → s ≡ restKind t k kinds i → length kinds ≤ i → 0 ≡ s
 unfolding restKind
-rest-none t k row i h l = pick-none 0 (hasKind t k) row i _ h l
+rest-none t k kinds i h l = pick-none 0 (hasKind t k) kinds i _ h l
