@@ -1,6 +1,7 @@
 -- What an answer by rules says of the rules.
 use Prim.Native.Nat.{ℕ}
 use mathlib.Core.Path.{_≡_, refl, sym, ap, _∙_}
+use mathlib.Core.Logic.{_⊎_, inl, inr, _↔_}
 use mathlib.Core.Bool.{Bool, true, false}
 use mathlib.Core.List.{List, [], _∷_}
 use Rattle.ground.specs.Choose.{choose}
@@ -38,3 +39,28 @@ refused (rule ∷ rules) us f v q h = go (refused rules us f v q) (rule .0) h
     go : (ruled rules refuses (gives us) ≡ refuses q → ruled rules f v ≡ f q) → (b : Bool) → choose b (refuses (rule .1)) (ruled rules refuses (gives us)) ≡ refuses q → choose b (f (rule .1)) (ruled rules f v) ≡ f q
     go rest true e = ap f (same-refused (rule .1) q e)
     go rest false e = rest e
+
+-- the first rule that holds says this refusal
+abbrev pub FirstIs : List (Bool × Refusal) → Refusal → Type 0
+FirstIs [] q = ⊥
+FirstIs (rule ∷ rules) q = ((rule .0 ≡ true) × (rule .1 ≡ q)) ⊎ ((rule .0 ≡ false) × FirstIs rules q)
+
+-- a number is given exactly when the first rule that holds says it, where refusing tells refusals apart and the value is no refusal
+module _ {ℓ} {A : Type ℓ} (f : Refusal → A) (v : A) (apart : (r q : Refusal) → f r ≡ f q → r ≡ q) (value : (q : Refusal) → v ≡ f q → ⊥) where
+  only-first : (rules : List (Bool × Refusal)) (q : Refusal) → ruled rules f v ≡ f q → FirstIs rules q
+  unfolding choose
+  only-first [] q e = value q e
+  only-first (rule ∷ rules) q e = go (only-first rules q) (rule .0) refl e
+    where
+      go : (ruled rules f v ≡ f q → FirstIs rules q) → (b : Bool) → rule .0 ≡ b → choose b (f (rule .1)) (ruled rules f v) ≡ f q → FirstIs (rule ∷ rules) q
+      go rest true h e = inl (h, apart (rule .1) q e)
+      go rest false h e = inr (h, rest e)
+
+  when-first : (rules : List (Bool × Refusal)) (q : Refusal) → FirstIs rules q → ruled rules f v ≡ f q
+  unfolding choose
+  when-first [] q z = absurd z
+  when-first (rule ∷ rules) q (inl (h, e)) = rw h (ap f e)
+  when-first (rule ∷ rules) q (inr (h, w)) = rw h (when-first rules q w)
+
+  pub refused-exactly : (rules : List (Bool × Refusal)) (q : Refusal) → (ruled rules f v ≡ f q) ↔ FirstIs rules q
+  refused-exactly rules q = (only-first rules q, when-first rules q)

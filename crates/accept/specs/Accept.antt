@@ -1,0 +1,72 @@
+-- Which received frame a wait takes (01, "Steps", "Frame"), and the numbers 7, 8 and 9 (01, "Numbers").
+use Prim.Native.Nat.{ℕ, _+_}
+use mathlib.Core.Bool.{Bool, _&&_, _||_, not}
+use mathlib.Core.List.{List, [], _∷_}
+use lib.ListN.{length}
+use lib.Dec.{eqb, leb, ltb}
+use Rattle.ground.specs.Choose.{choose}
+use Rattle.refusal.specs.Refusal.{Told, refuses, gives, ruled}
+use Rattle.refusal.specs.declared.Refusal.{Refusal}
+use Rattle.refusal.specs.declared.Refusal.the-variants.{UnexpectedType, BadEcho, BadMethod}
+use Rattle.frame.specs.Frame.{byte}
+use Rattle.word.specs.Words.{wordAt}
+use Rattle.accept.specs.declared.Heard.{Heard}
+use Rattle.accept.specs.declared.Heard.the-variants.{Ack, Echo, Deliver, Route, Answer, Refused}
+
+-- the payload of an ACK: 17 bytes, code 6, then the sender's MAC, here the record's (003, Table 49; 01, "An ACK has the form of 6.1's response table")
+unfoldable pub isAck : ℕ → List ℕ → Bool
+isAck mac payload = eqb (length payload) 17 && (eqb (byte payload 0) 6 && eqb (wordAt payload 1) mac)
+
+-- the session that follows the MAC (003, Table 49)
+abbrev pub ackSession : List ℕ → ℕ
+ackSession payload = wordAt payload 9
+
+-- an ACK has type 0 (003, Table 49)
+abbrev pub ackType : ℕ → Bool
+ackType message = eqb message 0
+
+-- "a request of type 1 to 127" (01, "after an offer")
+abbrev pub requestType : ℕ → Bool
+requestType message = leb 1 message && leb message 127
+
+-- the list's echo has type 0x94 (01, "after a list"; 003, Table 31)
+abbrev pub echoType : ℕ → Bool
+echoType message = eqb message 148
+
+-- "type = request + 128" (01, "after a forward")
+abbrev pub answerType : ℕ → ℕ → Bool
+answerType request message = eqb message (request + 128)
+
+-- 7: the type is not in the list for this wait, or it is type 0 and no such ACK (01, "Numbers", 7)
+abbrev pub unexpected : Bool → ℕ → Bool → Bool
+unexpected listed message ack = not listed || (ackType message && not ack)
+
+-- after an offer: an ACK, or a request with method 0 to 3; method 0 is for the host, 1 to 3 are routed (01, "Frame")
+unfoldable pub heardAfterOffer : ℕ → ℕ → Bool → Heard
+heardAfterOffer message method ack =
+    ruled ((unexpected (ackType message || requestType message) message ack, UnexpectedType) ∷ (requestType message && ltb 3 method, BadMethod) ∷ []) Refused
+    (choose (ackType message) Ack (choose (eqb method 0) Deliver Route))
+
+-- after a list: type 0x94 whose payload equals the list sent (01, "Frame")
+unfoldable pub heardAfterList : ℕ → Bool → Heard
+heardAfterList message same =
+    ruled ((not (echoType message), UnexpectedType) ∷ (not same, BadEcho) ∷ []) Refused Echo
+
+-- after a forward: first at most one ACK, then the response; the response may also come at once (01, "Frame")
+unfoldable pub heardAfterForward : ℕ → ℕ → Bool → Bool → Heard
+heardAfterForward message request ack acked =
+    ruled ((unexpected ((ackType message && not acked) || answerType request message) message ack, UnexpectedType) ∷ []) Refused
+    (choose (ackType message) Ack Answer)
+
+-- after a return: an ACK (01, "Frame")
+unfoldable pub heardAfterReturn : ℕ → Bool → Heard
+heardAfterReturn message ack = ruled ((unexpected (ackType message) message ack, UnexpectedType) ∷ []) Refused Ack
+
+-- what each case says: the refusal's number alone, or number 0 and the case's place among those that are taken
+abbrev pub toldHeard : Heard → Told
+toldHeard Ack = gives (1 ∷ [])
+toldHeard Echo = gives (2 ∷ [])
+toldHeard Deliver = gives (3 ∷ [])
+toldHeard Route = gives (4 ∷ [])
+toldHeard Answer = gives (5 ∷ [])
+toldHeard (Refused r) = refuses r
