@@ -20,7 +20,8 @@ use Rattle.frame.specs.Frame.{byte, fields, headerOf, lengthByte, readRu
 use Rattle.frame.proofs.Told.{Whole, whole}
 
 module _ (h : Header) (p : List ℕ) (small : length p ≤ 240) where
-  long : length (frameOf h p) ≡ 12 + length p
+  -- a frame has twelve bytes more than its payload
+  pub long : length (frameOf h p) ≡ 12 + length p
   unfolding frameOf
   long = simp length-append (omega arith)
 
