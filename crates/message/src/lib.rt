@@ -19,14 +19,28 @@ fn to_board(setup: Setup, board: usize, header: Header) -> Header
 }
 
 // Writes a frame to a board. Whom a frame goes to and comes from is said here only; the other fields are the header's.
-pub fn write_to(setup: Setup, board: usize, header: Header, payload: &[u8], out: &mut [u8]) -> Writing
+pub fn write_to(
+    setup: Setup,
+    board: usize,
+    header: Header,
+    payload: &[u8],
+    out: &mut [u8],
+) -> Writing
     ensures { λ r. ⌜ Sends (toBoard setup board header) (now (payload .entry)) r (now (out .entry)) (now (out .exit)) ⌝ }
 {
     frame::write(to_board(setup, board, header), payload, out)
 }
 
 // Writes a message of our own to a board.
-fn write_own(setup: Setup, table: Table, board: usize, message: u8, packet: u8, payload: &[u8], out: &mut [u8]) -> Writing
+fn write_own(
+    setup: Setup,
+    table: Table,
+    board: usize,
+    message: u8,
+    packet: u8,
+    payload: &[u8],
+    out: &mut [u8],
+) -> Writing
     ensures { λ r. ⌜ Sends (ownHeader setup (table .nodes) board message packet) (now (payload .entry)) r (now (out .entry)) (now (out .exit)) ⌝ }
 {
     let header = Header {

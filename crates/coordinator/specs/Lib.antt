@@ -1,0 +1,4 @@
+pub mod Phase
+pub mod Fit
+pub mod Fresh
+pub mod Change
