@@ -1,13 +1,12 @@
 -- What each wait takes: exactly what the rule book says (01, "Frame .. is accepted as follows").
-use Prim.Native.Nat.{ℕ, _+_, _≤_, _<_}
+use Prim.Native.Nat.{ℕ, _+_, _≤_}
 use native.Mathlib.Omega.{arith}
 use mathlib.Core.Path.{_≡_, refl, sym, ap, _∙_}
-use mathlib.Core.Logic.{_⊎_, inl, inr, _↔_, Iff·trans, Iff·and}
-use mathlib.Core.Bool.{Bool, true, false, _&&_, _||_, not, false≢true}
+use mathlib.Core.Logic.{_⊎_, inl, inr, _↔_, Iff·trans}
+use mathlib.Core.Bool.{Bool, true, false, _&&_, not, false≢true}
 use mathlib.Core.List.{List, [], _∷_}
 use lib.Dec.{eqb, ltb}
 use borrow.Author.Tests.{eqb-true, eq-eqb, ltb-false, le-ltb, not-true, not-false}
-use Rattle.ground.specs.Choose.{choose}
 use Rattle.ground.proofs.Choices.{and-left, and-right, both, or-left, or-right, either, not-yes, not-no}
 use Rattle.refusal.specs.declared.Refusal.{Refusal}
 use Rattle.refusal.specs.declared.Refusal.the-variants.{UnexpectedType, BadEcho, BadMethod}
@@ -17,7 +16,7 @@ use Rattle.board.specs.declared.Node.{Node}
 use Rattle.nodelist.specs.List.{nodeList, sameList}
 use Rattle.nodelist.proofs.Theorems.{same-yes, same-of}
 use Rattle.accept.specs.declared.Heard.{Heard}
-use Rattle.accept.specs.declared.Heard.the-variants.{Ack, Echo, Deliver, Route, Answer, Refused}
+use Rattle.accept.specs.declared.Heard.the-variants.{Ack, Echo, Refused}
 use Rattle.accept.specs.Accept.{ackType, requestType, offerTypes, listTypes, forwardTypes, returnTypes, unexpected, heardAfterOffer, heardAfterList, heardAfterForward, heardAfterReturn, toldHeard}
 use Rattle.accept.proofs.Cases.{request-yes, request-only}
 use Rattle.accept.proofs.Exactly.{unexpected-exactly, by-method, by-type}
@@ -70,9 +69,10 @@ accepted-after-offer m d a = Iff·trans (accepted-exactly Accepted Refused _ (by
 pub accepted-after-list : (m internal : ℕ) (t : List Node) (payload : List ℕ) → Accepted (heardAfterList m (sameList internal t payload)) ↔ ((m ≡ 148) × (payload ≡ nodeList internal t))
 unfolding heardAfterList
 accepted-after-list m internal t payload =
-    Iff·trans (accepted-exactly Accepted Refused Echo refl not-zero ((not (listTypes m), UnexpectedType) ∷ (not (sameList internal t payload), BadEcho) ∷ []))
-    ((λ h. (eqb-true m 148 (not-false (listTypes m) (h .0)), same-yes internal t payload (not-false (sameList internal t payload) (h .1 .0)))),
-    (λ h. (not-no (listTypes m) (eq-eqb m 148 (h .0)), (not-no (sameList internal t payload) (same-of internal t payload (h .1)), tt))))
+    Iff·trans (accepted-exactly Accepted Refused Echo refl not-zero ((not (listTypes m), UnexpectedType) ∷ (not (sameList internal t payload), BadEcho) ∷ [])) (
+      (λ h. (eqb-true m 148 (not-false (listTypes m) (h .0)), same-yes internal t payload (not-false (sameList internal t payload) (h .1 .0)))),
+      (λ h. (not-no (listTypes m) (eq-eqb m 148 (h .0)), (not-no (sameList internal t payload) (same-of internal t payload (h .1)), tt))),
+    )
 
 -- after a forward: at most one ACK, and the response, type = request + 128
 pub accepted-after-forward : (m q : ℕ) (a d : Bool) → Accepted (heardAfterForward m q a d) ↔ (((m ≡ 0) × ((a ≡ true) × (d ≡ false))) ⊎ (m ≡ q + 128))
