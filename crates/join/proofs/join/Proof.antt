@@ -1,14 +1,11 @@
 -- `join::join` meets its contract: a verdict that refuses refuses the step, and one that does not leaves what the rules say.
-use Prim.Native.Nat.{ℕ}
-use mathlib.Core.Path.{_≡_, ap, sym, _∙_}
-use mathlib.Core.List.{[]}
+use mathlib.Core.Path.{ap, sym, _∙_}
 use borrow.Author.Needs.{needs}
-use Rattle.refusal.proofs.Rules.{passed, gave, refused as rule-refused}
 use Rattle.board.specs.Table.{put}
 use Rattle.board.specs.Change.{oweAll}
 use Rattle.setup.specs.Setup.{toldOf}
 use Rattle.steps.specs.After.{shows, rests}
-use Rattle.steps.specs.Join.{joinRules, joinOf}
+use Rattle.join.proofs.Verdict.{join-taken, join-refused}
 use Rattle.join.proofs.join.Statement.{statement}
 use Rattle.join.proofs.join.Tie as tie
 
@@ -40,13 +37,11 @@ owe-all-requires : tie.Need-owe-all-requires
 owe-all-requires c κs = search needs
 
 returns : tie.Need-returns
-unfolding joinOf
 returns c =
     c .refusing .ensures ∙
-    sym (ap shows (rule-refused (joinRules (c .before .before .before .before .before .args .coordinator) (c .before .before .before .before .before .args .table .nodes) (c .before .before .before .before .before .args .kind) (c .before .before .before .before .before .args .mac)) [] _ _ _ (sym (c .before .before .before .before .judge-join .ensures) ∙ ap toldOf (c .before .before .judged .given .1))))
+    sym (ap shows (join-refused (c .before .before .before .before .before .args .coordinator) (c .before .before .before .before .before .args .table .nodes) (c .before .before .before .before .before .args .kind) (c .before .before .before .before .before .args .mac) (c .before .before .before .before .before .args .session) (c .before .before .judged .given .0 .0) (sym (ap toldOf (c .before .before .judged .given .1)) ∙ c .before .before .before .before .judge-join .ensures)))
 
 returns-2 : tie.Need-returns-2
-unfolding joinOf
 returns-2 c =
     (λ i. record {
       coordinator = c .before .before .holding .ensures i;
@@ -56,7 +51,7 @@ returns-2 c =
       joined = c .before .before .before .before .chosen .ensures i;
       dropped = 0;
     }) ∙
-    sym (ap shows (passed (joinRules (c .before .before .before .before .before .before .before .before .before .args .coordinator) (c .before .before .before .before .before .before .before .before .before .args .table .nodes) (c .before .before .before .before .before .before .before .before .before .args .kind) (c .before .before .before .before .before .before .before .before .before .args .mac)) _ _ (gave (joinRules (c .before .before .before .before .before .before .before .before .before .args .coordinator) (c .before .before .before .before .before .before .before .before .before .args .table .nodes) (c .before .before .before .before .before .before .before .before .before .args .kind) (c .before .before .before .before .before .before .before .before .before .args .mac)) [] [] (sym (c .before .before .before .before .before .before .before .before .judge-join .ensures) ∙ ap toldOf (c .before .before .before .before .before .before .enum-told .given .1)) .0)))
+    sym (ap shows (join-taken (c .before .before .before .before .before .before .before .before .before .args .coordinator) (c .before .before .before .before .before .before .before .before .before .args .table .nodes) (c .before .before .before .before .before .before .before .before .before .args .kind) (c .before .before .before .before .before .before .before .before .before .args .mac) (c .before .before .before .before .before .before .before .before .before .args .session) (sym (ap toldOf (c .before .before .before .before .before .before .enum-told .given .1)) ∙ c .before .before .before .before .before .before .before .before .judge-join .ensures)))
 
 pub join-spec : {M : Type 1} → statement M
 join-spec =
