@@ -40,6 +40,26 @@ refused (rule ∷ rules) us f v q h = go (refused rules us f v q) (rule .0) h
     go rest true e = ap f (same-refused (rule .1) q e)
     go rest false e = rest e
 
+-- what is read off an answer by rules is ruled by the same rules
+pub ruled-through {ℓ κ} : {A : Type ℓ} {B : Type κ} (g : A → B) (rules : List (Bool × Refusal)) (f : Refusal → A) (v : A) → g (ruled rules f v) ≡ ruled rules (λ r. g (f r)) (g v)
+unfolding choose
+ruled-through g [] f v = refl
+ruled-through g (rule ∷ rules) f v = go (rule .0) (ruled-through g rules f v)
+  where
+    go : (b : Bool) → g (ruled rules f v) ≡ ruled rules (λ r. g (f r)) (g v) → g (choose b (f (rule .1)) (ruled rules f v)) ≡ choose b (g (f (rule .1))) (ruled rules (λ r. g (f r)) (g v))
+    go true e = refl
+    go false e = e
+
+-- an answer from which a 0 is read that is read off no refusal passed every rule
+pub unrefused {ℓ} : {A : Type ℓ} (g : A → ℕ) (rules : List (Bool × Refusal)) (f : Refusal → A) (v : A) → ((q : Refusal) → g (f q) ≡ 0 → ⊥) → g (ruled rules f v) ≡ 0 → Passed rules
+unfolding choose
+unrefused g [] f v n h = tt
+unrefused g (rule ∷ rules) f v n h = go (unrefused g rules f v n) (rule .0) refl h
+  where
+    go : (g (ruled rules f v) ≡ 0 → Passed rules) → (b : Bool) → rule .0 ≡ b → g (choose b (f (rule .1)) (ruled rules f v)) ≡ 0 → Passed (rule ∷ rules)
+    go rest true e q = absurd (n (rule .1) q)
+    go rest false e q = (e, rest q)
+
 -- no rule says this refusal
 abbrev pub Unsaid : List (Bool × Refusal) → Refusal → Type 0
 Unsaid [] q = Unit {0}
@@ -88,3 +108,18 @@ module _ {ℓ κ} {A : Type ℓ} (Accepted : A → Type κ) (f : Refusal → A) 
 
   pub accepted-exactly : (rules : List (Bool × Refusal)) → Accepted (ruled rules f v) ↔ Passed rules
   accepted-exactly rules = (only-passed rules, λ h. rw (passed rules f v h) value)
+
+-- what holds of every refusal
+pub each {ℓ} : {Q : Refusal → Type ℓ} → ((r : Refusal) → Q r) → (rules : List (Bool × Refusal)) → Each Q rules
+each q [] = tt
+each q (rule ∷ rules) = ((λ h. q (rule .1)), (λ h. each q rules))
+
+-- what holds of each of them, and of the value where no rule holds, holds of whatever the rules give
+pub by-rules {ℓ κ} : {A : Type ℓ} (P : A → Type κ) (rules : List (Bool × Refusal)) (f : Refusal → A) (v : A) → Each (λ r. P (f r)) rules → (Passed rules → P v) → P (ruled rules f v)
+unfolding choose
+by-rules P [] f v e h = h tt
+by-rules P (rule ∷ rules) f v e h = go (by-rules P rules f v) (rule .0) refl
+  where
+    go : (Each (λ r. P (f r)) rules → (Passed rules → P v) → P (ruled rules f v)) → (b : Bool) → rule .0 ≡ b → P (choose b (f (rule .1)) (ruled rules f v))
+    go rest true q = e .0 q
+    go rest false q = rest (e .1 q) (λ passed. h (q, passed))
