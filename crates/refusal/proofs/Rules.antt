@@ -109,6 +109,11 @@ module _ {ℓ κ} {A : Type ℓ} (Accepted : A → Type κ) (f : Refusal → A) 
   pub accepted-exactly : (rules : List (Bool × Refusal)) → Accepted (ruled rules f v) ↔ Passed rules
   accepted-exactly rules = (only-passed rules, λ h. rw (passed rules f v h) value)
 
+-- what holds of each refusal that a rule says, where it holds and those before it do not
+abbrev pub Each {ℓ} : (Refusal → Type ℓ) → List (Bool × Refusal) → Type ℓ
+Each Q [] = Unit
+Each Q (rule ∷ rules) = (rule .0 ≡ true → Q (rule .1)) × (rule .0 ≡ false → Each Q rules)
+
 -- what holds of every refusal
 pub each {ℓ} : {Q : Refusal → Type ℓ} → ((r : Refusal) → Q r) → (rules : List (Bool × Refusal)) → Each Q rules
 each q [] = tt
