@@ -1,0 +1,6 @@
+pub mod Rules
+pub mod Tables
+pub mod Kept
+pub mod Turn
+pub mod Quiet
+pub mod Join
