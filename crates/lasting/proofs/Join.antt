@@ -7,11 +7,13 @@ use mathlib.Core.List.{List, []}
 use native.Mathlib.Omega.{arith}
 use lib.ListN.{length}
 use lib.Dec.{ltb, eqb}
-use borrow.Author.Tests.{ltb-true, ltb-false, eqb-true, eqb-false, eq-eqb, not-true, not-false}
+use borrow.Author.Tests.{ltb-true, ltb-false, eqb-true, eqb-false, eq-eqb, ne-eqb, not-true, not-false}
 use Rattle.ground.specs.Choose.{choose}
 use Rattle.ground.proofs.Choices.{and-left, and-right, both}
+use Rattle.ground.proofs.Loops.{some-no}
 use Rattle.ground.proofs.Firsts.{FirstCase}
-use Rattle.refusal.proofs.Rules.{Passed}
+use Rattle.refusal.specs.declared.Refusal.the-variants.{BadType, BadMac, Busy, Held, Full, AddressClash}
+use Rattle.refusal.proofs.Rules.{Passed, Each, by-rules}
 use Rattle.board.specs.declared.Node.{Node}
 use Rattle.board.specs.declared.Wanted.the-variants.{Mac, Free}
 use Rattle.board.specs.Node.{isKind, isMac}
@@ -21,6 +23,8 @@ use Rattle.board.specs.Change.{joinedNode, heard, renewed, oweAll}
 use Rattle.board.proofs.LowestWanted.{lowest-case}
 use Rattle.board.proofs.Changes.{owe-all-listed}
 use Rattle.setup.specs.Fitness.{Position, Listed, InRanges, FitTable}
+use Rattle.setup.specs.Setup.{address}
+use Rattle.setup.proofs.Apart.{free-apart}
 use Rattle.setup.proofs.Pools.{mac-told}
 use Rattle.setup.proofs.Tables.{table-passes}
 use Rattle.coordinator.specs.declared.Phase.{Phase}
@@ -32,10 +36,9 @@ use Rattle.coordinator.specs.Fit.{phaseFits, holdFits, fits}
 use Rattle.coordinator.specs.Change.{holding}
 use Rattle.coordinator.proofs.Fitting.{listed-told, listed-passes, listed-some, fits-of, fits-setup, fits-last, fit-told}
 use Rattle.steps.specs.After.{refused, rests}
-use Rattle.steps.specs.Join.{isResting, known, chosen, joining, joinRules, joinOf}
-use Rattle.lasting.proofs.Rules.{each, by-rules}
-use Rattle.lasting.proofs.Tables.{renewed-follows, put-fit, put-listed, join-fit, join-listed, owe-all-fit}
-use Rattle.lasting.proofs.Kept.{Keeps, refused-keeps, some-same, table-fit}
+use Rattle.steps.specs.Join.{isResting, known, chosen, isClash, joining, joinRules, joinOf}
+use Rattle.lasting.proofs.Tables.{Follows, renewed-follows, put-fit, put-listed, join-fit, join-listed, owe-all-fit}
+use Rattle.lasting.proofs.Kept.{Keeps, refused-keeps, unfit-keeps, some-same, table-fit}
 
 -- a MAC that is known is that of a listed board
 pub known-listed : (t : List Node) (k mac : ℕ) → ltb 0 (known t k mac) ≡ true → listedAt t (known t k mac) ≡ true
@@ -82,25 +85,16 @@ module _ (c : Coordinator) (t : List Node) (h : fits c t ≡ true) (kind mac ses
       }
 
   comes-back : ltb 0 (known t (c .setup .k) mac) ≡ true → Placed (c .setup .k) t (known t (c .setup .k) mac) (renewed (heard (at t (known t (c .setup .k) mac))) session)
-  comes-back e = (put-fit k t f p n l s, put-listed k t f p n l s p ∙ known-listed t k mac e)
+  comes-back e = (put-fit (c .setup .k) t f _ _ l s, put-listed (c .setup .k) t f _ _ l s (known t (c .setup .k) mac) ∙ known-listed t (c .setup .k) mac e)
     where
-      k : ℕ
-      k = c .setup .k
-
-      p : ℕ
-      p = known t (c .setup .k) mac
-
-      n : Node
-      n = renewed (heard (at t p)) session
-
-      f : FitTable k t
+      f : FitTable (c .setup .k) t
       f = table-fit c t h
 
-      l : Listed t p
-      l = listed-told t p (known-listed t k mac e)
+      l : Listed t (known t (c .setup .k) mac)
+      l = listed-told t (known t (c .setup .k) mac) (known-listed t (c .setup .k) mac e)
 
-      s : _
-      s = renewed-follows (at t p) session
+      s : Follows (at t (known t (c .setup .k) mac)) (renewed (heard (at t (known t (c .setup .k) mac))) session)
+      s = renewed-follows (at t (known t (c .setup .k) mac)) session
 
   comes-new : ltb 0 (known t (c .setup .k) mac) ≡ false → (lowestOf t Free (c .setup .k) ≡ 0 → ⊥) → Placed (c .setup .k) t (lowestOf t Free (c .setup .k)) (joinedNode kind mac session)
   comes-new e ne = (join-fit (c .setup .k) t f _ _ (p .place) inside new-ranges new, join-listed (c .setup .k) t f _ _ (p .place) inside new-ranges new)
@@ -146,12 +140,41 @@ idle : (a b : Bool) → (not a || b) ≡ false → a ≡ true
 idle true b e = refl
 idle false b e = sym e
 
+-- 17 is not given: the address of a free position is nobody's
+clash-never : (c : Coordinator) (t : List Node) (mac : ℕ) → fits c t ≡ true → eqb (chosen t (c .setup .k) mac) 0 ≡ false → (eqb (known t (c .setup .k) mac) 0 && isClash (c .setup) t (chosen t (c .setup .k) mac)) ≡ true → ⊥
+unfolding choose
+clash-never c t mac h full e = go (ltb 0 (known t (c .setup .k) mac)) refl full (and-right (eqb (known t (c .setup .k) mac) 0) (isClash (c .setup) t (chosen t (c .setup .k) mac)) e)
+  where
+    unknown : known t (c .setup .k) mac ≡ 0
+    unknown = eqb-true (known t (c .setup .k) mac) 0 (and-left (eqb (known t (c .setup .k) mac) 0) (isClash (c .setup) t (chosen t (c .setup .k) mac)) e)
+
+    free : FreePlace t (c .setup .k) (lowestOf t Free (c .setup .k)) → isClash (c .setup) t (lowestOf t Free (c .setup .k)) ≡ false
+    free p = some-no _ 41 (λ q l. each q (listedAt t q) refl)
+      where
+        each : (q : ℕ) (b : Bool) → listedAt t q ≡ b → (b && eqb (address (c .setup) q) (address (c .setup) (lowestOf t Free (c .setup .k)))) ≡ false
+        each q true l = ne-eqb _ _ (λ s. free-apart (c .setup) (fit-told c t h .setup) t (table-fit c t h) (lowestOf t Free (c .setup .k)) q (p .place) (p .free) (listed-told t q l) (sym s))
+        each q false l = refl
+
+    go : (b : Bool) → ltb 0 (known t (c .setup .k) mac) ≡ b → eqb (choose b (known t (c .setup .k) mac) (lowestOf t Free (c .setup .k))) 0 ≡ false → isClash (c .setup) t (choose b (known t (c .setup .k) mac) (lowestOf t Free (c .setup .k))) ≡ true → ⊥
+    go true l r s = omega (arith, unknown, ltb-true 0 (known t (c .setup .k) mac) l)
+    go false l r s = false≢true (sym (free (free-found t (c .setup .k) (eqb-false (lowestOf t Free (c .setup .k)) 0 r))) ∙ s)
+
 pub join-keeps : (c : Coordinator) (t : List Node) (kind mac session : ℕ) → Keeps c t (joinOf c t kind mac session)
 unfolding joinOf
-join-keeps c t kind mac session = by-rules (Keeps c t) (joinRules c t kind mac) (refused c t) _ (each (refused-keeps c t) (joinRules c t kind mac)) value
+join-keeps c t kind mac session = by-rules (Keeps c t) (joinRules c t kind mac) (refused c t) _ refusals (λ passed. record { fit = joined passed; setup = refl; says = λ _. refl })
   where
-    value : Passed (joinRules c t kind mac) → _
-    value (unfit, kinds, macs, busy, held, full, clash, end) = record { fit = λ _. joined-fits c t h (idle (isResting (phaseOf (c .stand))) _ busy) _ _ (placed c t h kind mac session (not-false _ kinds) (not-false _ macs) full); setup = refl }
-      where
-        h : fits c t ≡ true
-        h = not-false (fits c t) unfit
+    joined : Passed (joinRules c t kind mac) → fits c t ≡ true → fits (holding c true) (oweAll (put t (chosen t (c .setup .k) mac) (joining t (c .setup .k) kind mac session))) ≡ true
+    joined passed h = joined-fits c t h (idle (isResting (phaseOf (c .stand))) _ (passed .1 .1 .1 .0)) _ _ (placed c t h kind mac session (not-false _ (passed .1 .0)) (not-false _ (passed .1 .1 .0)) (passed .1 .1 .1 .1 .1 .0))
+
+    clash : eqb (chosen t (c .setup .k) mac) 0 ≡ false → (eqb (known t (c .setup .k) mac) 0 && isClash (c .setup) t (chosen t (c .setup .k) mac)) ≡ true → Keeps c t (refused c t AddressClash)
+    clash full e = record { fit = λ h. h; setup = refl; says = λ h. absurd (clash-never c t mac h full e) }
+
+    refusals : Each (λ r. Keeps c t (refused c t r)) (joinRules c t kind mac)
+    refusals =
+        (unfit-keeps c t, λ _.
+        ((λ _. refused-keeps c t BadType refl), λ _.
+        ((λ _. refused-keeps c t BadMac refl), λ _.
+        ((λ _. refused-keeps c t Busy refl), λ _.
+        ((λ _. refused-keeps c t Held refl), λ _.
+        ((λ _. refused-keeps c t Full refl), λ full.
+        (clash full, λ _. tt)))))))

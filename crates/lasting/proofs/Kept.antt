@@ -1,10 +1,16 @@
 -- What a step keeps, and how: the setup, the boards that are listed, and that coordinator and table are fit.
 use Prim.Native.Nat.{ℕ, _≤_}
 use mathlib.Core.Path.{_≡_, refl, sym, ap, _∙_}
-use mathlib.Core.Bool.{Bool, true, false, _&&_}
-use mathlib.Core.List.{List}
+use mathlib.Core.Bool.{Bool, true, false, _&&_, not, false≢true}
+use mathlib.Core.List.{List, [], _∷_}
+use lib.Dec.{eqb}
+use borrow.Author.Tests.{not-true, not-false}
 use Rattle.ground.specs.Below.{some}
+use Rattle.ground.proofs.Choices.{and-left, and-right}
+use Rattle.refusal.specs.Refusal.{numberOf, ruled}
 use Rattle.refusal.specs.declared.Refusal.{Refusal}
+use Rattle.refusal.specs.declared.Refusal.the-variants.{StateUnfit}
+use Rattle.refusal.proofs.Rules.{Passed, Each, by-rules}
 use Rattle.board.specs.declared.Node.{Node}
 use Rattle.board.specs.Table.{at, put, listedAt}
 use Rattle.board.specs.Wanted.{someListed}
@@ -24,13 +30,37 @@ use Rattle.coordinator.proofs.Fitting.{fits-of, fits-setup, fits-hold, fits-las
 use Rattle.steps.specs.After.{After, refused}
 use Rattle.lasting.proofs.Tables.{Follows, put-fit, put-listed, owe-all-fit}
 
--- a step keeps fit what was fit, and the setup
+-- a number that a panel in a fit state may give: neither 22 nor 17
+abbrev pub usual : ℕ → Bool
+usual n = not (eqb n 22) && not (eqb n 17)
+
+-- a step keeps fit what was fit, and the setup; and in a fit state it gives neither 22 nor 17
 pub record Keeps (c : Coordinator) (t : List Node) (a : After) : Type 0 where
   pub fit : fits c t ≡ true → fits (a .coordinator) (a .nodes) ≡ true
   pub setup : a .coordinator .setup ≡ c .setup
+  pub says : fits c t ≡ true → usual (a .says .number) ≡ true
 
-pub refused-keeps : (c : Coordinator) (t : List Node) (r : Refusal) → Keeps c t (refused c t r)
-refused-keeps c t r = record { fit = λ h. h; setup = refl }
+-- a refusal keeps all as it was
+module _ (c : Coordinator) (t : List Node) where
+  pub refused-keeps : (r : Refusal) → usual (numberOf r) ≡ true → Keeps c t (refused c t r)
+  refused-keeps r u = record { fit = λ h. h; setup = refl; says = λ h. u }
+
+  -- 22 is not given in a fit state
+  pub unfit-keeps : not (fits c t) ≡ true → Keeps c t (refused c t StateUnfit)
+  unfit-keeps e = record { fit = λ h. h; setup = refl; says = λ h. absurd (false≢true (sym (not-true (fits c t) e) ∙ h)) }
+
+  -- rules that say neither 22 nor 17
+  abbrev usuals : List (Bool × Refusal) → Bool
+  usuals [] = true
+  usuals (rule ∷ rules) = usual (numberOf (rule .1)) && usuals rules
+
+  each-usual : (rules : List (Bool × Refusal)) → usuals rules ≡ true → Each (λ r. Keeps c t (refused c t r)) rules
+  each-usual [] u = tt
+  each-usual (rule ∷ rules) u = ((λ h. refused-keeps (rule .1) (and-left (usual (numberOf (rule .1))) (usuals rules) u)), (λ h. each-usual rules (and-right (usual (numberOf (rule .1))) (usuals rules) u)))
+
+  -- a step whose first rule is 22 keeps what its value keeps in a fit state
+  pub rules-keep : (rules : List (Bool × Refusal)) → usuals rules ≡ true → (a : After) → (fits c t ≡ true → Passed rules → Keeps c t a) → Keeps c t (ruled ((not (fits c t), StateUnfit) ∷ rules) (refused c t) a)
+  rules-keep rules u a value = by-rules (Keeps c t) ((not (fits c t), StateUnfit) ∷ rules) (refused c t) a (unfit-keeps, λ h. each-usual rules u) (λ passed. value (not-false (fits c t) (passed .0)) (passed .1))
 
 -- another table that is fit, with the same boards listed
 pub record Stays (k : ℕ) (t u : List Node) : Type 0 where

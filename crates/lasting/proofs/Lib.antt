@@ -1,6 +1,10 @@
-pub mod Rules
 pub mod Tables
 pub mod Kept
-pub mod Turn
-pub mod Quiet
 pub mod Join
+pub mod Turn
+pub mod Heard
+pub mod Receive
+pub mod Quiet
+pub mod Keeping
+pub mod Starting
+pub mod Series
