@@ -1,9 +1,9 @@
 -- A join keeps fit.
 use Prim.Native.Nat.{ℕ, _≤_, min}
-use mathlib.Core.Path.{_≡_, refl, sym, ap, _∙_}
-use mathlib.Core.Logic.{_⊎_, inl, inr}
+use mathlib.Core.Path.{_≡_, refl, sym, _∙_}
+use mathlib.Core.Logic.{inl, inr}
 use mathlib.Core.Bool.{Bool, true, false, _&&_, _||_, not, false≢true}
-use mathlib.Core.List.{List, []}
+use mathlib.Core.List.{List}
 use native.Mathlib.Omega.{arith}
 use lib.ListN.{length}
 use lib.Dec.{ltb, eqb}
@@ -18,7 +18,7 @@ use Rattle.board.specs.declared.Node.{Node}
 use Rattle.board.specs.declared.Wanted.the-variants.{Mac, Free}
 use Rattle.board.specs.Node.{isKind, isMac}
 use Rattle.board.specs.Table.{at, put, listedAt}
-use Rattle.board.specs.Wanted.{wantedAt, lowestOf, someListed}
+use Rattle.board.specs.Wanted.{wantedAt, lowestOf}
 use Rattle.board.specs.Change.{joinedNode, heard, renewed, oweAll}
 use Rattle.board.proofs.LowestWanted.{lowest-case}
 use Rattle.board.proofs.Changes.{owe-all-listed}
@@ -35,7 +35,7 @@ use Rattle.coordinator.specs.Phase.{phaseOf}
 use Rattle.coordinator.specs.Fit.{phaseFits, holdFits, fits}
 use Rattle.coordinator.specs.Change.{holding}
 use Rattle.coordinator.proofs.Fitting.{listed-told, listed-passes, listed-some, fits-of, fits-setup, fits-last, fit-told}
-use Rattle.steps.specs.After.{refused, rests}
+use Rattle.steps.specs.After.{refused}
 use Rattle.steps.specs.Join.{isResting, known, chosen, isClash, joining, joinRules, joinOf}
 use Rattle.lasting.proofs.Tables.{Follows, renewed-follows, put-fit, put-listed, join-fit, join-listed, owe-all-fit}
 use Rattle.lasting.proofs.Kept.{Keeps, refused-keeps, unfit-keeps, some-same, table-fit}
@@ -170,11 +170,23 @@ join-keeps c t kind mac session = by-rules (Keeps c t) (joinRules c t kind mac) 
     clash full e = record { fit = λ h. h; setup = refl; says = λ h. absurd (clash-never c t mac h full e) }
 
     refusals : Each (λ r. Keeps c t (refused c t r)) (joinRules c t kind mac)
-    refusals =
-        (unfit-keeps c t, λ _.
-        ((λ _. refused-keeps c t BadType refl), λ _.
-        ((λ _. refused-keeps c t BadMac refl), λ _.
-        ((λ _. refused-keeps c t Busy refl), λ _.
-        ((λ _. refused-keeps c t Held refl), λ _.
-        ((λ _. refused-keeps c t Full refl), λ full.
-        (clash full, λ _. tt)))))))
+    refusals = (
+      unfit-keeps c t,
+      λ _. (
+        (λ _. refused-keeps c t BadType refl),
+        λ _. (
+          (λ _. refused-keeps c t BadMac refl),
+          λ _. (
+            (λ _. refused-keeps c t Busy refl),
+            λ _. (
+              (λ _. refused-keeps c t Held refl),
+              λ _. (
+                (λ _. refused-keeps c t Full refl),
+                λ full.
+                    (clash full, λ _. tt),
+              ),
+            ),
+          ),
+        ),
+      ),
+    )

@@ -1,10 +1,10 @@
 -- A received frame keeps fit.
-use Prim.Native.Nat.{ℕ, _+_, _≤_}
+use Prim.Native.Nat.{ℕ, _≤_}
 use native.Mathlib.Omega.{arith}
 use mathlib.Core.Path.{_≡_, refl}
-use mathlib.Core.Bool.{Bool, true, false, _&&_}
-use mathlib.Core.List.{List, []}
-use lib.ListN.{length, take, drop, length-take}
+use mathlib.Core.Bool.{Bool, true, false}
+use mathlib.Core.List.{List}
+use lib.ListN.{length, drop, length-take}
 use lib.Dec.{eqb, leb, ltb}
 use borrow.Author.Tests.{ltb-true, ltb-false, leb-true, lt-ltb, le-leb}
 use Rattle.ground.specs.Choose.{choose}
@@ -18,12 +18,10 @@ use Rattle.board.specs.Table.{at, put, listedAt}
 use Rattle.board.specs.Change.{heard, renewed, oweAll}
 use Rattle.routing.specs.Route.{routeOf}
 use Rattle.routing.proofs.Theorems.{route-suits}
-use Rattle.accept.specs.declared.Heard.{Heard}
-use Rattle.accept.specs.declared.Heard.the-variants.{Ack, Echo, Deliver, Route, Answer, Refused}
+use Rattle.accept.specs.declared.Heard.the-variants.{Route}
 use Rattle.accept.specs.Accept.{requestType, isAck, ackSession}
 use Rattle.nodelist.specs.List.{sameList}
 use Rattle.message.specs.Message.{signedFrame, ackCode}
-use Rattle.coordinator.specs.declared.Exchange.{Exchange}
 use Rattle.coordinator.specs.declared.Exchange.the-variants.{Offer, List as Listing, Forward, Return}
 use Rattle.coordinator.specs.declared.Phase.{Phase}
 use Rattle.coordinator.specs.declared.Phase.the-variants.{Resting, Awaiting, ForwardDue, ReturnDue, Unknown}
@@ -34,7 +32,7 @@ use Rattle.coordinator.specs.Change.{withPhase, keeping}
 use Rattle.coordinator.proofs.Phases.{resting, forwarding, forward-due, return-due}
 use Rattle.coordinator.proofs.Fitting.{Carried, listed-told, phase-told, fits-in, awaited, awaited-forward}
 use Rattle.steps.specs.After.{refused, accepted, delivers, transmits}
-use Rattle.steps.specs.Receive.{payload, hear, hearAck, keptOf, acking, routed, acked, heardIn, takenAs, takenIn, receiveRules, receiveIn, receiveOf}
+use Rattle.steps.specs.Receive.{payload, hear, hearAck, keptOf, acking, routed, heardIn, takenAs, takenIn, receiveRules, receiveIn, receiveOf}
 use Rattle.lasting.proofs.Tables.{heard-follows, renewed-follows}
 use Rattle.lasting.proofs.Kept.{Keeps, Stays, usual, refused-keeps, rules-keep, put-stays, owe-stays, table-fit, phase-keeps}
 use Rattle.lasting.proofs.Heard.{offer-heard, list-heard, forward-heard, return-heard}

@@ -1,5 +1,5 @@
 -- What a step may do to the table, and that the table stays fit.
-use Prim.Native.Nat.{ℕ, _≤_, min, _+_}
+use Prim.Native.Nat.{ℕ, _≤_}
 use native.Mathlib.Omega.{arith}
 use native.Mathlib.Decide.{ℕ-discrete}
 use mathlib.Core.Path.{_≡_, refl, sym, ap, _∙_}
