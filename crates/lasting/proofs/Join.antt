@@ -38,7 +38,7 @@ use Rattle.coordinator.proofs.Fitting.{listed-told, listed-passes, listed-some,
 use Rattle.steps.specs.After.{refused}
 use Rattle.steps.specs.Join.{isResting, known, chosen, isClash, joining, joinRules, joinOf}
 use Rattle.lasting.proofs.Tables.{Follows, renewed-follows, put-fit, put-listed, join-fit, join-listed, owe-all-fit}
-use Rattle.lasting.proofs.Kept.{Keeps, accepted-keeps, refused-keeps, never-keeps, unfit-keeps, some-same, table-fit}
+use Rattle.lasting.proofs.Keeps.{Keeps, accepted-keeps, refused-keeps, never-keeps, unfit-keeps, some-same, table-fit}
 
 -- a MAC that is known is that of a listed board
 pub known-listed : (t : List Node) (k mac : ℕ) → ltb 0 (known t k mac) ≡ true → listedAt t (known t k mac) ≡ true

@@ -7,7 +7,7 @@ use Rattle.steps.specs.declared.Event.the-variants.{Join, Turn, Frame, Quiet}
 use Rattle.steps.specs.Step.{stepOf}
 use Rattle.series.specs.Series.{Input, World, left, isAccepted}
 use Rattle.series.specs.Ours.{ours}
-use Rattle.lasting.proofs.Kept.{AsItWas, Keeps}
+use Rattle.lasting.proofs.Keeps.{AsItWas, Keeps}
 use Rattle.lasting.proofs.Join.{join-keeps}
 use Rattle.lasting.proofs.Turn.{turn-keeps}
 use Rattle.lasting.proofs.Receive.{receive-keeps}
@@ -26,6 +26,7 @@ step-keeps w i = go (i .event)
 abbrev pub isFit : World → Bool
 isFit w = fits (w .coordinator) (w .nodes)
 
+-- the two facts by themselves
 pub step-fit : (w : World) (i : Input) → isFit w ≡ true → isFit (left (ours .step w i)) ≡ true
 step-fit w i h = step-keeps w i .fit h
 

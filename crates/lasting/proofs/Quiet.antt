@@ -29,7 +29,7 @@ use Rattle.coordinator.proofs.Changing.{with-phase-fits}
 use Rattle.steps.specs.After.{accepted, rests}
 use Rattle.steps.specs.Quiet.{droppedAt, missedAt, quietValue, quietRules, quietIn, quietOf}
 use Rattle.lasting.proofs.Tables.{missed-follows, clear-fit, owe-all-fit}
-use Rattle.lasting.proofs.Kept.{Keeps, accepted-keeps, Stays, refused-keeps, rules-keep, put-stays, some-same, table-fit, phase-keeps}
+use Rattle.lasting.proofs.Keeps.{Keeps, accepted-keeps, Stays, refused-keeps, rules-keep, put-stays, some-same, table-fit, phase-keeps}
 
 -- a hold is fit wherever somebody is listed
 hold-some : (held : ℕ) (t u : List Node) → holdFits held t ≡ true → someListed u ≡ true → holdFits held u ≡ true

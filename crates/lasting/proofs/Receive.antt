@@ -34,7 +34,7 @@ use Rattle.coordinator.proofs.Fitting.{Carried, listed-told, phase-told, fits-i
 use Rattle.steps.specs.After.{refused, accepted, delivers, transmits}
 use Rattle.steps.specs.Receive.{payload, hear, hearAck, keptOf, acking, routed, heardIn, takenAs, takenIn, receiveRules, receiveIn, receiveOf}
 use Rattle.lasting.proofs.Tables.{heard-follows, renewed-follows}
-use Rattle.lasting.proofs.Kept.{Keeps, accepted-keeps, Stays, refused-keeps, rules-keep, put-stays, owe-stays, table-fit, phase-keeps}
+use Rattle.lasting.proofs.Keeps.{Keeps, accepted-keeps, Stays, refused-keeps, rules-keep, put-stays, owe-stays, table-fit, phase-keeps}
 use Rattle.lasting.proofs.Heard.{offer-heard, list-heard, forward-heard, return-heard}
 
 -- a request that is routed, and a response, are kept as fit asks
@@ -46,10 +46,10 @@ kept-response h p m few = both _ _ (lt-ltb 128 (h .message) (omega arith)) (le-l
 
 -- a board that is heard stays listed, with the others
 module _ (c : Coordinator) (t : List Node) (h : fits c t ≡ true) (b : ℕ) (l : listedAt t b ≡ true) where
-  hear-stays : Stays (c .setup .k) t (hear t b)
+  pub hear-stays : Stays (c .setup .k) t (hear t b)
   hear-stays = put-stays (c .setup .k) t (table-fit c t h) b (heard (at t b)) (listed-told t b l) (heard-follows (at t b))
 
-  hear-ack-stays : (session : ℕ) → Stays (c .setup .k) t (hearAck t b session)
+  pub hear-ack-stays : (session : ℕ) → Stays (c .setup .k) t (hearAck t b session)
   unfolding choose
   hear-ack-stays session = go (eqb session (at t b .session))
     where
@@ -82,11 +82,11 @@ module _ (c : Coordinator) (t : List Node) (h : fits c t ≡ true) (b : ℕ) (l 
 
 -- what each wait hears
 module _ (c : Coordinator) (t : List Node) (h : fits c t ≡ true) (f : Header) (p : List ℕ) (few : length p ≤ 240) (room : ℕ) where
-  -- what holds of a wait's end holds of an ACK that ends it
+  -- an ACK that ends its wait
   ack-ends : (b : ℕ) → listedAt t b ≡ true → fits (withPhase c Resting) (hearAck t b (ackSession p)) ≡ true
   ack-ends b l = ended c t h b l (hearAck t b (ackSession p)) (hear-ack-stays c t h b l (ackSession p))
 
-  -- and of a frame that is acknowledged and ends it
+  -- a frame that is acknowledged and ends its wait
   acking-ends : (b : ℕ) → listedAt t b ≡ true → (says : Told) → says .number ≡ 0 → Keeps c t (acking c t b room says (withPhase c Resting))
   acking-ends b l says u = acking-keeps c t h b l room says (withPhase c Resting) refl (ended c t h b l (hear t b) (hear-stays c t h b l)) u
 

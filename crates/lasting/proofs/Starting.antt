@@ -1,4 +1,4 @@
--- A setup that was taken leaves a fit panel with k addresses, on which nobody is listed.
+-- A setup that was taken leaves a fit panel with k addresses, on which nobody is listed; one that refuses leaves all as it was.
 use Prim.Native.Nat.{ℕ, _≤_, _<_}
 use native.Mathlib.Omega.{arith}
 use mathlib.Core.Path.{_≡_, refl, sym, ap, subst, _∙_}
@@ -29,7 +29,7 @@ use Rattle.steps.specs.After.{After, refused, accepted, rests}
 use Rattle.steps.specs.Start.{setupOf, startOf}
 use Rattle.series.specs.Series.{World, Fresh, fresh-start, left, isAccepted}
 use Rattle.series.specs.Ours.{ours}
-use Rattle.lasting.proofs.Kept.{AsItWas, as-it-was}
+use Rattle.lasting.proofs.Keeps.{AsItWas, as-it-was}
 use Rattle.lasting.proofs.Keeping.{isFit}
 
 -- the pool is the addresses, whatever is laid behind them
@@ -74,6 +74,7 @@ module _ (c : Coordinator) (t : List Node) (addresses : List ℕ) (subnet intern
         free = blank-at;
       }
 
+  -- the rules and the value of a setup, as they stand in its definition
   abbrev startRules : List (Bool × Refusal)
   startRules = (not (eqb (length t) 40), StateUnfit) ∷ setupRules addresses mac
 
@@ -96,6 +97,7 @@ module _ (c : Coordinator) (t : List Node) (addresses : List ℕ) (subnet intern
       as-refused : (r : Refusal) → isAccepted (refused c t r .says) ≡ false → AsItWas c t (refused c t r)
       as-refused r e = as-it-was c t r
 
+-- a fresh start with k addresses
 pub started : {k : ℕ} {w : World} → Fresh ours k w → Started k w
 started (fresh-start w addresses subnet internal mac session size says) =
     subst (λ (n : ℕ). Started n (left (ours .start w addresses subnet internal mac session))) size (start-taken (w .coordinator) (w .nodes) addresses subnet internal mac session says)

@@ -29,7 +29,7 @@ use Rattle.coordinator.proofs.Fitting.{Board, listed-told, some-listed, fits-in
 use Rattle.coordinator.proofs.Changing.{with-phase-fits, offered-fits}
 use Rattle.steps.specs.Turn.{owedTo, dueList, dueOffer, dueOwn, dueIn, turnRules, sent, turnIn, turnOf}
 use Rattle.lasting.proofs.Tables.{told-follows}
-use Rattle.lasting.proofs.Kept.{Keeps, accepted-keeps, Stays, rules-keep, put-stays, table-fit, phase-keeps}
+use Rattle.lasting.proofs.Keeps.{Keeps, accepted-keeps, Stays, rules-keep, put-stays, table-fit, phase-keeps}
 
 -- a list goes to a listed board
 pub owed-listed : (c : Coordinator) (t : List Node) → ltb 0 (owedTo c t) ≡ true → listedAt t (owedTo c t) ≡ true
