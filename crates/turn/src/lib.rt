@@ -194,7 +194,13 @@ fn is_awaiting(phase: Phase) -> bool
             requester: _,
             acked: _,
         } => true,
-        _ => false,
+        Phase::Resting => false,
+        Phase::ForwardDue {
+            board: _,
+            requester: _,
+        } => false,
+        Phase::ReturnDue { board: _ } => false,
+        Phase::Unknown => false,
     }
 }
 
