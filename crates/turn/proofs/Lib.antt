@@ -1,1 +1,2 @@
 pub mod Sending
+pub mod Turns

@@ -49,9 +49,12 @@ module _ (d : Due) (c : Coordinator) (t : List Node) (r : Stepped) (before after
       go true h l = (told-as (NotWritten NoRoom) h, l)
       go false h l = (told-as (Written (12 + length (d .payload))) h ∙ ap counted (sym (long (d .header) (d .payload))), l)
 
--- what is left of one transmission is left of an equal one
+-- what is left of one step is left of an equal one, and so of one transmission
+pub leaves-as : (r : Stepped) (before after : List ℕ) {a b : After} → a ≡ b → Leaves b r before after → Leaves a r before after
+leaves-as r before after e h = subst (λ (x : After). Leaves x r before after) (sym e) h
+
 pub leaves-due : (c : Coordinator) (t : List Node) (r : Stepped) (before after : List ℕ) {d e : Due} → d ≡ e → Leaves (sending e c t (length before)) r before after → Leaves (sending d c t (length before)) r before after
-leaves-due c t r before after q h = subst (λ (x : Due). Leaves (sending x c t (length before)) r before after) (sym q) h
+leaves-due c t r before after q h = leaves-as r before after (ap (λ (x : Due). sending x c t (length before)) q) h
 
 -- the front of a list of n, cut at n
 pub front-cut : (p : List ℕ) (m n k : ℕ) → length p ≡ k → m ≡ min n k → take m p ≡ take n p

@@ -8,11 +8,13 @@ use coordinator::Phase;
 use frame::Header;
 use frame::Writing;
 use refusal::Refusal;
+use setup::Setup;
 use steps::Answer;
 use steps::Outcome;
 use steps::Stepped;
 ghost use mathlib.Core.Path.{_≡_};
-ghost use lib.ListN.{length};
+ghost use Prim.Native.Nat.{_≤_};
+ghost use lib.ListN.{length, take};
 ghost use Rattle.ground.specs.Bytes.{laid};
 ghost use mathlib.Core.Bool.{false};
 ghost use Rattle.coordinator.specs.Change.{withPhase};
@@ -20,6 +22,7 @@ ghost use Rattle.steps.specs.After.{shown, shows};
 ghost use Rattle.steps.specs.Turn.{carriedHeader, dueCarried, dueList, dueOffer, dueOwn, dueIn, isAwaiting, turnOf};
 ghost use Rattle.coordinator.specs.declared.Exchange.the-variants.{Forward, Return};
 ghost use Rattle.board.specs.Wanted.{indexOf};
+ghost use Rattle.message.specs.Message.{toBoard, Sends};
 ghost use Rattle.turn.specs.Sending.{Leaves, sending, shownOf};
 
 // The step after a transmission. Where it was written the panel waits for the board, with the coordinator and the records
@@ -71,11 +74,18 @@ fn waiting(
     coordinator::with_phase(coordinator, phase)
 }
 
-// The header of the message that is kept. Whom it goes to and comes from is for the writer to say.
-fn carried_header(kept: Kept, parameter2: u8) -> Header
-    ensures { λ r. ⌜ r ≡ carriedHeader kept parameter2 ⌝ }
+// Writes the message that is kept to a board. The message says its header but for parameter 2; whom it goes to and comes
+// from is for the writer to say.
+fn write_carried(
+    kept: Kept,
+    setup: Setup,
+    board: usize,
+    parameter2: u8,
+    out: &mut [u8],
+) -> Writing
+    ensures { λ r. ⌜ (length (take (kept .length) (kept .payload)) ≤ 240) × Sends (toBoard setup board (carriedHeader kept parameter2)) (take (kept .length) (kept .payload)) r (now (out .entry)) (now (out .exit)) ⌝ }
 {
-    Header {
+    let header = Header {
         destination: 0,
         source: 0,
         subnet: 0,
@@ -85,7 +95,10 @@ fn carried_header(kept: Kept, parameter2: u8) -> Header
         kind: kept.kind,
         message: kept.message,
         packet: kept.packet,
-    }
+    };
+    let payload = kept.payload;
+    let n = ground::least(kept.length, 240);
+    message::write_to(setup, board, header, &payload[..n], out)
 }
 
 // Sends the message that is kept to a board.
@@ -100,11 +113,13 @@ fn send_carried(
 ) -> Stepped
     ensures { λ r. ⌜ Leaves (sending (dueCarried coordinator (table .nodes) board exchange requester parameter2) coordinator (table .nodes) (length (now (out .entry)))) r (now (out .entry)) (now (out .exit)) ⌝ }
 {
-    let kept = coordinator.kept;
-    let payload = kept.payload;
-    let n = ground::least(kept.length, 240);
-    let header = carried_header(kept, parameter2);
-    let writing = message::write_to(coordinator.setup, board, header, &payload[..n], out);
+    let writing = write_carried(
+        coordinator.kept,
+        coordinator.setup,
+        board,
+        parameter2,
+        out,
+    );
     let next = waiting(coordinator, board, exchange, requester);
     sent(writing, coordinator, table, next, table, board, exchange)
 }
