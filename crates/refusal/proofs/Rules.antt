@@ -40,6 +40,16 @@ refused (rule ∷ rules) us f v q h = go (refused rules us f v q) (rule .0) h
     go rest true e = ap f (same-refused (rule .1) q e)
     go rest false e = rest e
 
+-- what is read off an answer by rules is ruled by the same rules
+pub ruled-through {ℓ κ} : {A : Type ℓ} {B : Type κ} (g : A → B) (rules : List (Bool × Refusal)) (f : Refusal → A) (v : A) → g (ruled rules f v) ≡ ruled rules (λ r. g (f r)) (g v)
+unfolding choose
+ruled-through g [] f v = refl
+ruled-through g (rule ∷ rules) f v = go (rule .0) (ruled-through g rules f v)
+  where
+    go : (b : Bool) → g (ruled rules f v) ≡ ruled rules (λ r. g (f r)) (g v) → g (choose b (f (rule .1)) (ruled rules f v)) ≡ choose b (g (f (rule .1))) (ruled rules (λ r. g (f r)) (g v))
+    go true e = refl
+    go false e = e
+
 -- the first rule that holds says this refusal
 abbrev pub FirstIs : List (Bool × Refusal) → Refusal → Type 0
 FirstIs [] q = ⊥

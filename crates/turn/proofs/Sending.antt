@@ -1,20 +1,19 @@
 -- What a transmission leaves, by what its writing gave; which transmission is due.
-use Prim.Native.Nat.{ℕ, _+_, _≤_, _<_, min}
+use Prim.Native.Nat.{ℕ, _+_, _≤_, _<_}
 use native.Mathlib.Omega.{arith}
 use mathlib.Core.Path.{_≡_, refl, sym, ap, subst, _∙_}
 use mathlib.Core.Bool.{Bool, true, false}
 use mathlib.Core.List.{List, [], _∷_}
-use lib.ListN.{length, take, length-take}
+use lib.ListN.{length}
 use lib.Dec.{ltb}
-use lib.Seq.{take-all}
-use borrow.Author.Tests.{lt-ltb, le-ltb, ltb-true, ltb-false}
+use borrow.Author.Tests.{lt-ltb, le-ltb}
 use types.Run.{OneOf, miss}
 use denote.Enum.Declared.{tagOf}
 use Rattle.ground.specs.Bytes.{laid}
 use Rattle.ground.specs.Choose.{choose}
 use Rattle.ground.proofs.Choices.{choose-yes, choose-no}
 use Rattle.refusal.specs.declared.Refusal.the-variants.{NoRoom}
-use Rattle.refusal.specs.Refusal.{Told, refuses, gives}
+use Rattle.refusal.specs.Refusal.{refuses, gives}
 use Rattle.frame.specs.declared.Writing.{Writing}
 use Rattle.frame.specs.declared.Writing.the-variants.{Written, Refused as NotWritten}
 use Rattle.frame.specs.Frame.{frameOf, toldWritten}
@@ -55,14 +54,6 @@ leaves-as r before after e h = subst (λ (x : After). Leaves x r before after) (
 
 pub leaves-due : (c : Coordinator) (t : List Node) (r : Stepped) (before after : List ℕ) {d e : Due} → d ≡ e → Leaves (sending e c t (length before)) r before after → Leaves (sending d c t (length before)) r before after
 leaves-due c t r before after q h = leaves-as r before after (ap (λ (x : Due). sending x c t (length before)) q) h
-
--- the front of a list of n, cut at n
-pub front-cut : (p : List ℕ) (m n k : ℕ) → length p ≡ k → m ≡ min n k → take m p ≡ take n p
-front-cut p m n k l e = go (ltb k n) refl
-  where
-    go : (b : Bool) → ltb k n ≡ b → take m p ≡ take n p
-    go true h = take-all m p (omega (arith, ltb-true k n h)) ∙ sym (take-all n p (omega (arith, ltb-true k n h)))
-    go false h = ap (λ (x : ℕ). take x p) (let q : m ≡ n = omega (arith, ltb-false k n h) in q)
 
 module _ (c : Coordinator) (t : List Node) where
   -- the list is due where a position is owed it, an offer where none is

@@ -1,6 +1,6 @@
 -- What a turn is, by the tests in their order.
 use Prim.Native.Nat.{ℕ}
-use mathlib.Core.Path.{_≡_, refl, sym, ap, subst, _∙_}
+use mathlib.Core.Path.{_≡_, refl}
 use mathlib.Core.Bool.{Bool, true, false, not}
 use mathlib.Core.List.{List}
 use Rattle.ground.specs.Choose.{choose}
@@ -11,8 +11,8 @@ use Rattle.coordinator.specs.declared.Coordinator.{Coordinator}
 use Rattle.coordinator.specs.declared.Phase.{Phase}
 use Rattle.coordinator.specs.Phase.{phaseOf}
 use Rattle.coordinator.specs.Fit.{fits}
-use Rattle.steps.specs.After.{After, refused}
-use Rattle.steps.specs.Turn.{Due, dueIn, isAwaiting, turnIn, turnOf}
+use Rattle.steps.specs.After.{refused}
+use Rattle.steps.specs.Turn.{dueIn, isAwaiting, turnIn, turnOf}
 use Rattle.turn.specs.Sending.{sending}
 
 module _ (c : Coordinator) (t : List Node) (room : ℕ) {f : Bool} (fit : f ≡ fits c t) where

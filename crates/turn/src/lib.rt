@@ -76,13 +76,7 @@ fn waiting(
 
 // Writes the message that is kept to a board. The message says its header but for parameter 2; whom it goes to and comes
 // from is for the writer to say.
-fn write_carried(
-    kept: Kept,
-    setup: Setup,
-    board: usize,
-    parameter2: u8,
-    out: &mut [u8],
-) -> Writing
+fn write_carried(kept: Kept, setup: Setup, board: usize, parameter2: u8, out: &mut [u8]) -> Writing
     ensures { λ r. ⌜ (length (take (kept .length) (kept .payload)) ≤ 240) × Sends (toBoard setup board (carriedHeader kept parameter2)) (take (kept .length) (kept .payload)) r (now (out .entry)) (now (out .exit)) ⌝ }
 {
     let header = Header {
@@ -113,13 +107,7 @@ fn send_carried(
 ) -> Stepped
     ensures { λ r. ⌜ Leaves (sending (dueCarried coordinator (table .nodes) board exchange requester parameter2) coordinator (table .nodes) (length (now (out .entry)))) r (now (out .entry)) (now (out .exit)) ⌝ }
 {
-    let writing = write_carried(
-        coordinator.kept,
-        coordinator.setup,
-        board,
-        parameter2,
-        out,
-    );
+    let writing = write_carried(coordinator.kept, coordinator.setup, board, parameter2, out);
     let next = waiting(coordinator, board, exchange, requester);
     sent(writing, coordinator, table, next, table, board, exchange)
 }
@@ -160,7 +148,15 @@ fn send_list(coordinator: Coordinator, table: Table, board: usize, out: &mut [u8
     let writing = message::write_list(coordinator.setup, table, board, out);
     let next = waiting(coordinator, board, Exchange::List, 0);
     let settled = board::settle_at(table, board);
-    sent(writing, coordinator, table, next, settled, board, Exchange::List)
+    sent(
+        writing,
+        coordinator,
+        table,
+        next,
+        settled,
+        board,
+        Exchange::List,
+    )
 }
 
 // Offers a board the bus.
@@ -169,7 +165,15 @@ fn send_offer(coordinator: Coordinator, table: Table, board: usize, out: &mut [u
 {
     let writing = message::write_signed(coordinator.setup, table, board, 0, out);
     let next = coordinator::offered(coordinator, board);
-    sent(writing, coordinator, table, next, table, board, Exchange::Offer)
+    sent(
+        writing,
+        coordinator,
+        table,
+        next,
+        table,
+        board,
+        Exchange::Offer,
+    )
 }
 
 // Our own next transmission: the list to the lowest position owed, else an offer to the next listed position.

@@ -1,3 +1,4 @@
+-- `turn::send_carried` meets its contract, by the law of what a transmission leaves.
 use mathlib.Core.Path.{refl}
 use denote.Ref.{now}
 use Rattle.steps.specs.Turn.{dueCarried}

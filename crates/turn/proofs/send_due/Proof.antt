@@ -1,3 +1,4 @@
+-- `turn::send_due` meets its contract, phase by phase.
 use mathlib.Core.Path.{ap}
 use denote.Ref.{now}
 use Rattle.coordinator.specs.declared.Phase.{Phase}

@@ -1,3 +1,4 @@
+-- `turn::send_forward` meets its contract: an index fits a byte.
 use native.Mathlib.Omega.{arith}
 use lib.ListN.{length-map}
 use Rattle.board.proofs.Index.{index-within}

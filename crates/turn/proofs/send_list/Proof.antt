@@ -1,3 +1,4 @@
+-- `turn::send_list` meets its contract, by the law of what a transmission leaves.
 use denote.Ref.{now}
 use Rattle.message.proofs.Messages.{list-small}
 use Rattle.steps.specs.Turn.{dueList}

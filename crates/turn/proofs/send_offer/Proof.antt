@@ -1,3 +1,4 @@
+-- `turn::send_offer` meets its contract, by the law of what a transmission leaves.
 use mathlib.Core.Path.{refl}
 use denote.Ref.{now}
 use Rattle.message.proofs.Messages.{signed-small}

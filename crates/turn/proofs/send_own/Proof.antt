@@ -1,3 +1,4 @@
+-- `turn::send_own` meets its contract: the list is due where a position is owed it, else an offer.
 use denote.Ref.{now}
 use Rattle.turn.proofs.Sending.{leaves-due, own-list, own-offer}
 use borrow.Author.Needs.{needs}

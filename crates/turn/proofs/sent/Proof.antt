@@ -1,3 +1,4 @@
+-- `turn::sent` meets its contract, by what the writing gave.
 use mathlib.Core.Path.{refl}
 use borrow.Author.Needs.{needs}
 use Rattle.turn.proofs.sent.Statement.{statement}

@@ -1,3 +1,4 @@
+-- `turn::turn` meets its contract: each refusal and the transmission, by the tests on the way.
 use mathlib.Core.Path.{refl}
 use lib.ListN.{length}
 use denote.Ref.{now}

@@ -1,7 +1,8 @@
+-- `turn::write_carried` meets its contract: the payload's array has 240 bytes, so that its front cut there is the kept payload.
 use native.Mathlib.Omega.{arith}
 use mathlib.Core.Path.{_≡_}
 use lib.ListN.{length, length-map, length-take}
-use Rattle.turn.proofs.Sending.{front-cut}
+use Rattle.ground.proofs.Laid.{front-cut}
 use borrow.Author.Needs.{needs}
 use Rattle.turn.proofs.write_carried.Statement.{statement}
 use Rattle.turn.proofs.write_carried.Tie as tie
