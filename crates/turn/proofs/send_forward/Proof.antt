@@ -1,0 +1,27 @@
+-- `turn::send_forward` meets its contract: an index fits a byte.
+use native.Mathlib.Omega.{arith}
+use lib.ListN.{length-map}
+use Rattle.board.proofs.Index.{index-within}
+use borrow.Author.Needs.{needs}
+use Rattle.turn.proofs.send_forward.Statement.{statement}
+use Rattle.turn.proofs.send_forward.Tie as tie
+
+index-of-requires : tie.Need-index-of-requires
+index-of-requires c κs = search needs
+
+cast-send-carried : tie.Need-cast-send-carried
+cast-send-carried c = record { fits = omega (arith, c .index-of .ensures, index-within (c .before .before .args .table .nodes) (c .before .before .args .requester) (simp length-map at (c .before .before .good .1 .0 .1 .1 .0 .1 .0 .1))) }
+
+send-carried-requires : tie.Need-send-carried-requires
+send-carried-requires c κs = search needs
+
+same-length : tie.Need-same-length
+same-length c = search needs
+
+returns : tie.Need-returns
+returns c = rw (← (c .before .before .before .before .index-of .ensures)) (c .before .before .send-carried .ensures)
+
+pub send-forward-spec : {M : Type 1} → statement M
+send-forward-spec =
+    tie.close
+    (tie.spec index-of-requires cast-send-carried send-carried-requires same-length returns)
