@@ -6,12 +6,11 @@ use mathlib.Core.Logic.{_⊎_, inl, inr}
 use mathlib.Core.Bool.{Bool, true, false, _&&_, not, false≢true}
 use mathlib.Core.List.{List, [], _∷_}
 use lib.Dec.{eqb, ltb}
-use lib.ListN.{length}
-use borrow.Author.Tests.{eqb-true, eqb-false, eq-eqb, ne-eqb, lt-ltb, le-ltb, ltb-true, ltb-false, not-true}
+use borrow.Author.Tests.{eqb-true, eqb-false, eq-eqb, ne-eqb, lt-ltb, le-ltb, ltb-true, ltb-false}
 use Rattle.ground.specs.Choose.{choose}
 use Rattle.ground.proofs.Choices.{choose-yes, choose-no, and-left, and-right, both, not-left, not-right}
 use Rattle.ground.proofs.Loops.{some-no}
-use Rattle.ground.proofs.Firsts.{First, FirstCase}
+use Rattle.ground.proofs.Firsts.{FirstCase}
 use Rattle.refusal.specs.Refusal.{Told, ruled, refuses}
 use Rattle.refusal.specs.declared.Refusal.the-variants.{StateUnfit, BadType, BadMac, Busy, Held, Full, AddressClash}
 use Rattle.refusal.proofs.Rules.{Passed}
@@ -19,7 +18,7 @@ use Rattle.board.specs.declared.Node.{Node}
 use Rattle.board.specs.declared.Wanted.{Wanted}
 use Rattle.board.specs.declared.Wanted.the-variants.{Mac, Free}
 use Rattle.board.specs.Node.{isListed, isKind}
-use Rattle.board.specs.Table.{at, put, listedAt}
+use Rattle.board.specs.Table.{at, listedAt}
 use Rattle.board.specs.Wanted.{wantedAt, lowestOf}
 use Rattle.board.specs.Change.{joinedNode, heard, renewed, owe}
 use Rattle.board.proofs.Changes.{at-put, at-owe-all}
@@ -40,22 +39,6 @@ not-false : (b : Bool) → not b ≡ false → b ≡ true
 not-false true h = refl
 not-false false h = sym h
 
--- the position that is chosen: a listed MAC's own, else the lowest free one
-
-chosen-known : (t : List Node) (k mac : ℕ) → 0 < known t k mac → chosen t k mac ≡ known t k mac
-chosen-known t k mac l = sym (choose-yes (ltb 0 (known t k mac)) _ _ (lowestOf t Free k) (lt-ltb 0 (known t k mac) l) refl)
-
-chosen-new : (t : List Node) (k mac : ℕ) → known t k mac ≤ 0 → chosen t k mac ≡ lowestOf t Free k
-chosen-new t k mac l = sym (choose-no (ltb 0 (known t k mac)) _ (known t k mac) _ (le-ltb 0 (known t k mac) l) refl)
-
--- what holds where the MAC is listed and where it is new
-by-known {ℓ} : (P : Type ℓ) (t : List Node) (k mac : ℕ) → (0 < known t k mac → P) → (known t k mac ≤ 0 → P) → P
-by-known P t k mac f g = go (ltb 0 (known t k mac)) refl
-  where
-    go : (b : Bool) → ltb 0 (known t k mac) ≡ b → P
-    go true e = f (ltb-true 0 (known t k mac) e)
-    go false e = g (ltb-false 0 (known t k mac) e)
-
 -- a lowest position other than 0 is one from 1 to k, and wanted
 found : (t : List Node) (w : Wanted) (k : ℕ) → (lowestOf t w k ≡ 0 → ⊥) → Position k (lowestOf t w k) × (wantedAt w t (lowestOf t w k) ≡ true)
 found t w k ne = go (lowest-case t w k)
@@ -63,6 +46,50 @@ found t w k ne = go (lowest-case t w k)
     go : FirstCase 0 (wantedAt w t) 1 (min k 40) (lowestOf t w k) → Position k (lowestOf t w k) × (wantedAt w t (lowestOf t w k) ≡ true)
     go (inl (none, zeroed)) = absurd (ne zeroed)
     go (inr f) = (record { from = f .from; upTo = omega (arith, f .within) }, f .passes)
+
+module _ (t : List Node) (k mac : ℕ) where
+  -- what holds where the MAC is listed and where it is new
+  by-known {ℓ} : (P : Type ℓ) → (0 < known t k mac → P) → (known t k mac ≤ 0 → P) → P
+  by-known P f g = go (ltb 0 (known t k mac)) refl
+    where
+      go : (b : Bool) → ltb 0 (known t k mac) ≡ b → P
+      go true e = f (ltb-true 0 (known t k mac) e)
+      go false e = g (ltb-false 0 (known t k mac) e)
+
+  -- the position chosen is a listed MAC's own, else the lowest free one
+  chosen-known : 0 < known t k mac → chosen t k mac ≡ known t k mac
+  chosen-known l = sym (choose-yes (ltb 0 (known t k mac)) _ _ (lowestOf t Free k) (lt-ltb 0 (known t k mac) l) refl)
+
+  chosen-new : known t k mac ≤ 0 → chosen t k mac ≡ lowestOf t Free k
+  chosen-new l = sym (choose-no (ltb 0 (known t k mac)) _ (known t k mac) _ (le-ltb 0 (known t k mac) l) refl)
+
+  -- it is one from 1 to k, unless it is 0
+  chosen-within : (chosen t k mac ≡ 0 → ⊥) → Position k (chosen t k mac)
+  chosen-within ne =
+      by-known _
+      (λ l. rw (chosen-known l) (found t (Mac mac) k (λ z. omega arith) .0))
+      (λ l. rw (chosen-new l) (found t Free k (λ z. ne (chosen-new l ∙ z)) .0))
+
+  -- a listed MAC's position is listed, and has that MAC
+  known-listed : 0 < known t k mac → listedAt t (known t k mac) ≡ true
+  known-listed l = and-left (listedAt t (known t k mac)) _ (found t (Mac mac) k (λ z. omega arith) .1)
+
+  known-mac : 0 < known t k mac → at t (known t k mac) .mac ≡ mac
+  known-mac l = eqb-true (at t (known t k mac) .mac) mac (and-right (listedAt t (known t k mac)) _ (found t (Mac mac) k (λ z. omega arith) .1))
+
+  -- the record that joins is that position's, heard and with another session, else a new one
+  module _ (kind session : ℕ) where
+    joining-known : 0 < known t k mac → joining t k kind mac session ≡ renewed (heard (at t (known t k mac))) session
+    joining-known l = sym (choose-yes (ltb 0 (known t k mac)) _ _ (joinedNode kind mac session) (lt-ltb 0 (known t k mac) l) refl)
+
+    joining-new : known t k mac ≤ 0 → joining t k kind mac session ≡ joinedNode kind mac session
+    joining-new l = sym (choose-no (ltb 0 (known t k mac)) _ (renewed (heard (at t (known t k mac))) session) _ (le-ltb 0 (known t k mac) l) refl)
+
+    joining-listed : isKind kind ≡ true → isListed (joining t k kind mac session) ≡ true
+    joining-listed h = by-known _ (λ l. ap isListed (joining-known l) ∙ known-listed l) (λ l. ap isListed (joining-new l) ∙ and-left (not (eqb kind 0)) _ h)
+
+    joining-mac : joining t k kind mac session .mac ≡ mac
+    joining-mac = by-known _ (λ l. ap (λ (n : Node). n .mac) (joining-known l) ∙ known-mac l) (λ l. ap (λ (n : Node). n .mac) (joining-new l))
 
 -- 17 is never given
 
@@ -81,7 +108,7 @@ module _ (c : Coordinator) (t : List Node) (fit : Fit c t) where
 
   -- its test fails where coordinator and table are fit
   pub clash-never : (mac : ℕ) → (eqb (known t (c .setup .k) mac) 0 && isClash (c .setup) t (chosen t (c .setup .k) mac)) ≡ false
-  clash-never mac = by-known _ t (c .setup .k) mac (λ l. not-left _ _ (ne-eqb (known t (c .setup .k) mac) 0 (λ z. omega arith))) (λ l. not-right (eqb (known t (c .setup .k) mac) 0) _ (ap (isClash (c .setup) t) (chosen-new t (c .setup .k) mac l) ∙ no-clash (lowestOf t Free (c .setup .k)) (free (lowest-case t Free (c .setup .k)))))
+  clash-never mac = by-known t (c .setup .k) mac _ (λ l. not-left _ _ (ne-eqb (known t (c .setup .k) mac) 0 (λ z. omega arith))) (λ l. not-right (eqb (known t (c .setup .k) mac) 0) _ (ap (isClash (c .setup) t) (chosen-new t (c .setup .k) mac l) ∙ no-clash (lowestOf t Free (c .setup .k)) (free (lowest-case t Free (c .setup .k)))))
     where
       twice : (b : Bool) → not (not b) ≡ true → b ≡ true
       twice true h = refl
@@ -130,43 +157,20 @@ module _ (c : Coordinator) (t : List Node) (kind mac session : ℕ) (accepted : 
   fit : Fit c t
   fit = fit-told c t (not-false (fits c t) (rules .0))
 
-  some-position : chosen t (c .setup .k) mac ≡ 0 → ⊥
-  some-position = eqb-false (chosen t (c .setup .k) mac) 0 (rules .1 .1 .1 .1 .1 .0)
-
-  -- the record of a listed MAC
-  own : 0 < known t (c .setup .k) mac → Position (c .setup .k) (known t (c .setup .k) mac) × (wantedAt (Mac mac) t (known t (c .setup .k) mac) ≡ true)
-  own l = found t (Mac mac) (c .setup .k) (λ z. omega arith)
-
   within : Position (c .setup .k) (chosen t (c .setup .k) mac)
-  within = by-known _ t (c .setup .k) mac (λ l. rw (chosen-known t (c .setup .k) mac l) (own l .0)) (λ l. rw (chosen-new t (c .setup .k) mac l) (found t Free (c .setup .k) (λ z. some-position (chosen-new t (c .setup .k) mac l ∙ z)) .0))
+  within = chosen-within t (c .setup .k) mac (eqb-false (chosen t (c .setup .k) mac) 0 (rules .1 .1 .1 .1 .1 .0))
 
   -- what stands at the position afterwards
   joined-record : at (taken c t kind mac session .nodes) (chosen t (c .setup .k) mac) ≡ owe (joining t (c .setup .k) kind mac session)
   joined-record = at-owe-all _ (chosen t (c .setup .k) mac) ∙ ap owe (at-put t (chosen t (c .setup .k) mac) _ (within .from) (omega (arith, fit .table .forty, within .upTo, fit .setup .pool .upTo)))
-
-  joining-known : 0 < known t (c .setup .k) mac → joining t (c .setup .k) kind mac session ≡ renewed (heard (at t (known t (c .setup .k) mac))) session
-  joining-known l = sym (choose-yes (ltb 0 (known t (c .setup .k) mac)) _ _ (joinedNode kind mac session) (lt-ltb 0 (known t (c .setup .k) mac) l) refl)
-
-  joining-new : known t (c .setup .k) mac ≤ 0 → joining t (c .setup .k) kind mac session ≡ joinedNode kind mac session
-  joining-new l = sym (choose-no (ltb 0 (known t (c .setup .k) mac)) _ (renewed (heard (at t (known t (c .setup .k) mac))) session) _ (le-ltb 0 (known t (c .setup .k) mac) l) refl)
-
-  joining-listed : isListed (joining t (c .setup .k) kind mac session) ≡ true
-  joining-listed = by-known _ t (c .setup .k) mac
-      (λ l. ap isListed (joining-known l) ∙ and-left (listedAt t (known t (c .setup .k) mac)) _ (own l .1))
-      (λ l. ap isListed (joining-new l) ∙ and-left (not (eqb kind 0)) _ (not-false (isKind kind) (rules .1 .0)))
-
-  joining-mac : joining t (c .setup .k) kind mac session .mac ≡ mac
-  joining-mac = by-known _ t (c .setup .k) mac
-      (λ l. ap (λ (n : Node). n .mac) (joining-known l) ∙ eqb-true (at t (known t (c .setup .k) mac) .mac) mac (and-right (listedAt t (known t (c .setup .k) mac)) _ (own l .1)))
-      (λ l. ap (λ (n : Node). n .mac) (joining-new l))
 
   pub joined-listed : ListedAs (c .setup .k) mac (joinOf c t kind mac session)
   joined-listed =
       rw (join-passed c t kind mac session rules)
       (record {
         position = within;
-        listed = ap isListed joined-record ∙ joining-listed;
-        mac = ap (λ (n : Node). n .mac) joined-record ∙ joining-mac;
+        listed = ap isListed joined-record ∙ joining-listed t (c .setup .k) mac kind session (not-false (isKind kind) (rules .1 .0));
+        mac = ap (λ (n : Node). n .mac) joined-record ∙ joining-mac t (c .setup .k) mac kind session;
       })
 
   pub came-back : (p : ℕ) → Listed t p → at t p .mac ≡ mac → CameBack t p session (joinOf c t kind mac session)
@@ -179,14 +183,14 @@ module _ (c : Coordinator) (t : List Node) (kind mac session : ℕ) (accepted : 
         misses = ap (λ (n : Node). n .misses) after;
       })
     where
-      first : First (wantedAt (Mac mac) t) 1 (min (c .setup .k) 40) (known t (c .setup .k) mac)
-      first = lowest-found t (Mac mac) (c .setup .k) p (both (listedAt t p) _ (listed-passes t p l) (eq-eqb (at t p .mac) mac m)) (fit .table .within p l .from) (omega (arith, fit .table .within p l .upTo, fit .setup .pool .upTo))
+      here : 0 < known t (c .setup .k) mac
+      here = lowest-found t (Mac mac) (c .setup .k) p (both (listedAt t p) _ (listed-passes t p l) (eq-eqb (at t p .mac) mac m)) (fit .table .within p l .from) (omega (arith, fit .table .within p l .upTo, fit .setup .pool .upTo)) .from
 
       same : known t (c .setup .k) mac ≡ p
-      same = one-answers (c .setup .k) t (fit .table) mac (known t (c .setup .k) mac) p (listed-told t (known t (c .setup .k) mac) (and-left (listedAt t (known t (c .setup .k) mac)) _ (first .passes))) l (eqb-true (at t (known t (c .setup .k) mac) .mac) mac (and-right (listedAt t (known t (c .setup .k) mac)) _ (first .passes))) m
+      same = one-answers (c .setup .k) t (fit .table) mac (known t (c .setup .k) mac) p (listed-told t (known t (c .setup .k) mac) (known-listed t (c .setup .k) mac here)) l (known-mac t (c .setup .k) mac here) m
 
       there : chosen t (c .setup .k) mac ≡ p
-      there = chosen-known t (c .setup .k) mac (first .from) ∙ same
+      there = chosen-known t (c .setup .k) mac here ∙ same
 
       after : at (taken c t kind mac session .nodes) p ≡ owe (renewed (heard (at t p)) session)
-      after = ap (at (taken c t kind mac session .nodes)) (sym there) ∙ joined-record ∙ ap owe (joining-known (first .from) ∙ ap (λ (q : ℕ). renewed (heard (at t q)) session) same)
+      after = ap (at (taken c t kind mac session .nodes)) (sym there) ∙ joined-record ∙ ap owe (joining-known t (c .setup .k) mac kind session here ∙ ap (λ (q : ℕ). renewed (heard (at t q)) session) same)

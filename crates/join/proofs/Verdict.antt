@@ -1,9 +1,9 @@
 -- What a join leaves, by what its rules say.
 use Prim.Native.Nat.{ℕ}
-use mathlib.Core.Path.{_≡_, ap, sym, _∙_}
+use mathlib.Core.Path.{_≡_, sym, _∙_}
 use mathlib.Core.List.{List, [], _∷_}
 use mathlib.Core.Bool.{true}
-use Rattle.refusal.specs.Refusal.{Told, ruled, refuses, gives}
+use Rattle.refusal.specs.Refusal.{ruled, refuses, gives}
 use Rattle.refusal.specs.declared.Refusal.{Refusal}
 use Rattle.refusal.proofs.Rules.{Passed, passed, gave, ruled-through, refused as rule-refused}
 use Rattle.board.specs.declared.Node.{Node}

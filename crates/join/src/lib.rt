@@ -83,7 +83,7 @@ fn chosen(table: Table, k: usize, mac: u64) -> usize
     }
 }
 
-// A listed board has an address.
+// A record is a listed board's, and its own address is the one asked for.
 fn holds_address(node: Node, own: u8, address: u8) -> bool
     ensures { λ r. ⌜ r ≡ (isListed node && eqb own address) ⌝ }
 {
@@ -105,8 +105,8 @@ fn is_clash(setup: Setup, table: Table, position: usize) -> bool
     clash
 }
 
-// The last of the rules, on the position for the MAC: 16, 17. The address of a free position is no listed board's where
-// all is fit, so 17 is never given; it is tested all the same, since the rules ask for it.
+// The last of the rules, on the position for the MAC: 16, 17. They do not ask for the type, which is 0 here. Where all
+// is fit the address of a free position is no listed board's, so 17 is never given; the rules ask for its test.
 fn judge_position(coordinator: Coordinator, table: Table, mac: u64) -> Judged
     ensures { λ r. ⌜ toldOf r ≡ ruled (drop 5 (joinRules coordinator (table .nodes) 0 mac)) refuses (gives []) ⌝ }
 {
@@ -122,7 +122,7 @@ fn judge_position(coordinator: Coordinator, table: Table, mac: u64) -> Judged
     Judged::Fine
 }
 
-// The rules on what the panel is about, and those that follow: 14, 15, then 16 and 17.
+// The rules on what the panel is about, and those that follow: 14, 15, then 16 and 17. They do not ask for the type either.
 fn judge_moment(coordinator: Coordinator, table: Table, mac: u64) -> Judged
     ensures { λ r. ⌜ toldOf r ≡ ruled (drop 3 (joinRules coordinator (table .nodes) 0 mac)) refuses (gives []) ⌝ }
 {
