@@ -37,20 +37,20 @@ returns : tie.Need-returns
 returns c =
     c .refusing .ensures ∙
     sym (ap shows (start-refused
-      (c .before .before .before .before .before .before .args .coordinator) (c .before .before .before .before .before .before .args .table .nodes) (c .before .before .before .before .before .before .args .addresses .now)
-      (c .before .before .before .before .before .before .args .subnet) (c .before .before .before .before .before .before .args .internal) (c .before .before .before .before .before .before .args .mac) (c .before .before .before .before .before .before .args .session)
-      (simp length-map at (c .before .before .before .before .before .before .good .1 .0 .1 .1 .0 .1 .0 .1))
-      (c .before .before .judged .given .0 .0) (sym (c .before .before .before .before .judge-setup .ensures) ∙ ap toldOf (c .before .before .judged .given .1))))
+    (c .before .before .before .before .before .before .args .coordinator) (c .before .before .before .before .before .before .args .table .nodes) (c .before .before .before .before .before .before .args .addresses .now)
+    (c .before .before .before .before .before .before .args .subnet) (c .before .before .before .before .before .before .args .internal) (c .before .before .before .before .before .before .args .mac) (c .before .before .before .before .before .before .args .session)
+    (simp length-map at (c .before .before .before .before .before .before .good .1 .0 .1 .1 .0 .1 .0 .1))
+    (c .before .before .judged .given .0 .0) (sym (c .before .before .before .before .judge-setup .ensures) ∙ ap toldOf (c .before .before .judged .given .1))))
 
 returns-2 : tie.Need-returns-2
 returns-2 c =
     c .rested .ensures ∙
     same-rested (c .before .before .fresh .ensures ∙ ap fresh (c .before .before .before .setup-of .ensures)) (c .before .blank-table .ensures) ∙
     sym (ap shows (start-fine
-      (c .before .before .before .before .before .before .before .before .args .coordinator) (c .before .before .before .before .before .before .before .before .args .table .nodes) (c .before .before .before .before .before .before .before .before .args .addresses .now)
-      (c .before .before .before .before .before .before .before .before .args .subnet) (c .before .before .before .before .before .before .before .before .args .internal) (c .before .before .before .before .before .before .before .before .args .mac) (c .before .before .before .before .before .before .before .before .args .session)
-      (simp length-map at (c .before .before .before .before .before .before .before .before .good .1 .0 .1 .1 .0 .1 .0 .1))
-      (sym (c .before .before .before .before .before .before .judge-setup .ensures) ∙ ap toldOf (c .before .before .before .before .enum-told .given .1))))
+    (c .before .before .before .before .before .before .before .before .args .coordinator) (c .before .before .before .before .before .before .before .before .args .table .nodes) (c .before .before .before .before .before .before .before .before .args .addresses .now)
+    (c .before .before .before .before .before .before .before .before .args .subnet) (c .before .before .before .before .before .before .before .before .args .internal) (c .before .before .before .before .before .before .before .before .args .mac) (c .before .before .before .before .before .before .before .before .args .session)
+    (simp length-map at (c .before .before .before .before .before .before .before .before .good .1 .0 .1 .1 .0 .1 .0 .1))
+    (sym (c .before .before .before .before .before .before .judge-setup .ensures) ∙ ap toldOf (c .before .before .before .before .enum-told .given .1))))
 
 pub start-spec : {M : Type 1} → statement M
 start-spec =
