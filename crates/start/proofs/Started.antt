@@ -12,8 +12,8 @@ use Rattle.refusal.specs.declared.Refusal.{Refusal}
 use Rattle.refusal.specs.declared.Refusal.the-variants.{StateUnfit}
 use Rattle.refusal.proofs.Rules.{Passed, passed, gave, ruled-through}
 use Rattle.board.specs.declared.Node.{Node}
-use Rattle.board.specs.Node.{none, isMac, isListed}
-use Rattle.board.specs.Table.{at, listedAt}
+use Rattle.board.specs.Node.{isMac, isListed}
+use Rattle.board.specs.Table.{listedAt}
 use Rattle.setup.specs.declared.Setup.{Setup}
 use Rattle.setup.specs.Setup.{isPool, setupRules, setupFits}
 use Rattle.setup.specs.Fitness.{Pool}
@@ -22,10 +22,9 @@ use Rattle.coordinator.specs.declared.Coordinator.{Coordinator}
 use Rattle.coordinator.specs.declared.Phase.the-variants.{Resting}
 use Rattle.coordinator.specs.Phase.{phaseOf}
 use Rattle.coordinator.specs.Fit.{fits}
-use Rattle.coordinator.specs.Fresh.{fresh, blankTable}
 use Rattle.coordinator.proofs.Phases.{resting, phase-back}
 use Rattle.coordinator.proofs.Starting.{blank-at, fresh-fits}
-use Rattle.steps.specs.After.{After, refused, accepted, rests}
+use Rattle.steps.specs.After.{After, refused, rests}
 use Rattle.steps.specs.Start.{setupOf, startOf}
 use Rattle.start.proofs.Cases.{made}
 
