@@ -4,10 +4,10 @@ use native.Mathlib.Omega.{arith}
 use mathlib.Core.Path.{_≡_, refl, sym, ap, _∙_}
 use mathlib.Core.Bool.{Bool, true, false, _&&_, _||_, not}
 use mathlib.Core.List.{List, [], _∷_}
-use lib.Dec.{eqb, ltb}
-use borrow.Author.Tests.{le-leb, lt-leb, eq-eqb, ne-eqb}
+use lib.Dec.{eqb, leb, ltb}
+use borrow.Author.Tests.{leb-true, le-leb, lt-leb, eq-eqb, ne-eqb}
 use Rattle.ground.specs.Choose.{choose}
-use Rattle.ground.proofs.Choices.{tests}
+use Rattle.ground.proofs.Choices.{and-left, and-right, tests}
 use Rattle.refusal.specs.Refusal.{Told}
 use Rattle.refusal.specs.declared.Refusal.the-variants.{UnexpectedType, BadMethod, BadEcho}
 use Rattle.accept.specs.declared.Heard.{Heard}
@@ -17,6 +17,9 @@ use Rattle.accept.specs.Accept.{ackType, requestType, heardAfterOffer, h
 -- which types are requests
 pub request-yes : (m : ℕ) → 1 ≤ m → m ≤ 127 → requestType m ≡ true
 request-yes m l h = rw (le-leb 1 m l, le-leb m 127 h) refl
+
+pub request-only : (m : ℕ) → requestType m ≡ true → (1 ≤ m) × (m ≤ 127)
+request-only m h = (leb-true 1 m (and-left (leb 1 m) (leb m 127) h), leb-true m 127 (and-right (leb 1 m) (leb m 127) h))
 
 pub request-no : (m : ℕ) → 127 < m → requestType m ≡ false
 request-no m h = rw (le-leb 1 m (omega arith), lt-leb m 127 h) refl

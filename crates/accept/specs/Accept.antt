@@ -21,46 +21,54 @@ isAck mac payload = eqb (length payload) 17 && (eqb (byte payload 0) 6 && eqb (w
 abbrev pub ackSession : List ℕ → ℕ
 ackSession payload = wordAt payload 9
 
--- an ACK has type 0 (003, Table 49)
+-- the types in the list of each wait (01, "Frame"): an ACK has type 0 (003, Table 49)
 abbrev pub ackType : ℕ → Bool
 ackType message = eqb message 0
 
--- "a request of type 1 to 127" (01, "after an offer")
+-- a request has type 1 to 127 (01, "after an offer")
 abbrev pub requestType : ℕ → Bool
 requestType message = leb 1 message && leb message 127
 
--- the list's echo has type 0x94 (01, "after a list"; 003, Table 31)
-abbrev pub echoType : ℕ → Bool
-echoType message = eqb message 148
+-- after an offer: an ACK, or a request of type 1 to 127
+abbrev pub offerTypes : ℕ → Bool
+offerTypes message = ackType message || requestType message
 
--- "type = request + 128" (01, "after a forward")
-abbrev pub answerType : ℕ → ℕ → Bool
-answerType request message = eqb message (request + 128)
+-- after a list: type 0x94
+abbrev pub listTypes : ℕ → Bool
+listTypes message = eqb message 148
 
--- 7: the type is not in the list for this wait, or it is type 0 and no such ACK (01, "Numbers", 7)
+-- after a forward: first at most one ACK, then the response, type = request + 128; the response may also come at once
+abbrev pub forwardTypes : ℕ → Bool → ℕ → Bool
+forwardTypes request acked message = (ackType message && not acked) || eqb message (request + 128)
+
+-- after a return: an ACK
+abbrev pub returnTypes : ℕ → Bool
+returnTypes message = ackType message
+
+-- 7: type not in the list for this wait, or type 0 that is no such ACK (01, "Numbers", 7)
 abbrev pub unexpected : Bool → ℕ → Bool → Bool
 unexpected listed message ack = not listed || (ackType message && not ack)
 
--- after an offer: an ACK, or a request with method 0 to 3; method 0 is for the host, 1 to 3 are routed (01, "Frame")
+-- after an offer: 7, and 9 for a request with method above 3; else an ACK, or a request for the host by method 0 and to be routed by 1 to 3
 unfoldable pub heardAfterOffer : ℕ → ℕ → Bool → Heard
 heardAfterOffer message method ack =
-    ruled ((unexpected (ackType message || requestType message) message ack, UnexpectedType) ∷ (requestType message && ltb 3 method, BadMethod) ∷ []) Refused
+    ruled ((unexpected (offerTypes message) message ack, UnexpectedType) ∷ (requestType message && ltb 3 method, BadMethod) ∷ []) Refused
     (choose (ackType message) Ack (choose (eqb method 0) Deliver Route))
 
--- after a list: type 0x94 whose payload equals the list sent (01, "Frame")
+-- after a list: 7, and 8 for another payload than the list sent; else its echo
 unfoldable pub heardAfterList : ℕ → Bool → Heard
 heardAfterList message same =
-    ruled ((not (echoType message), UnexpectedType) ∷ (not same, BadEcho) ∷ []) Refused Echo
+    ruled ((not (listTypes message), UnexpectedType) ∷ (not same, BadEcho) ∷ []) Refused Echo
 
--- after a forward: first at most one ACK, then the response; the response may also come at once (01, "Frame")
+-- after a forward: 7; else an ACK, or the response
 unfoldable pub heardAfterForward : ℕ → ℕ → Bool → Bool → Heard
 heardAfterForward message request ack acked =
-    ruled ((unexpected ((ackType message && not acked) || answerType request message) message ack, UnexpectedType) ∷ []) Refused
+    ruled ((unexpected (forwardTypes request acked message) message ack, UnexpectedType) ∷ []) Refused
     (choose (ackType message) Ack Answer)
 
--- after a return: an ACK (01, "Frame")
+-- after a return: 7; else an ACK
 unfoldable pub heardAfterReturn : ℕ → Bool → Heard
-heardAfterReturn message ack = ruled ((unexpected (ackType message) message ack, UnexpectedType) ∷ []) Refused Ack
+heardAfterReturn message ack = ruled ((unexpected (returnTypes message) message ack, UnexpectedType) ∷ []) Refused Ack
 
 -- what each case says: the refusal's number alone, or number 0 and the case's place among those that are taken
 abbrev pub toldHeard : Heard → Told

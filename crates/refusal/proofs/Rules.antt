@@ -1,7 +1,7 @@
 -- What an answer by rules says of the rules.
 use Prim.Native.Nat.{ℕ}
 use mathlib.Core.Path.{_≡_, refl, sym, ap, _∙_}
-use mathlib.Core.Logic.{_⊎_, inl, inr, _↔_}
+use mathlib.Core.Logic.{_↔_}
 use mathlib.Core.Bool.{Bool, true, false}
 use mathlib.Core.List.{List, [], _∷_}
 use Rattle.ground.specs.Choose.{choose}
@@ -40,27 +40,51 @@ refused (rule ∷ rules) us f v q h = go (refused rules us f v q) (rule .0) h
     go rest true e = ap f (same-refused (rule .1) q e)
     go rest false e = rest e
 
--- the first rule that holds says this refusal
-abbrev pub FirstIs : List (Bool × Refusal) → Refusal → Type 0
-FirstIs [] q = ⊥
-FirstIs (rule ∷ rules) q = ((rule .0 ≡ true) × (rule .1 ≡ q)) ⊎ ((rule .0 ≡ false) × FirstIs rules q)
+-- no rule says this refusal
+abbrev pub Unsaid : List (Bool × Refusal) → Refusal → Type 0
+Unsaid [] q = Unit {0}
+Unsaid (rule ∷ rules) q = (rule .1 ≡ q → ⊥) × Unsaid rules q
 
--- a number is given exactly when the first rule that holds says it, where refusing tells refusals apart and the value is no refusal
+-- when a number is given, where refusing tells the refusals apart and the value is no refusal
 module _ {ℓ} {A : Type ℓ} (f : Refusal → A) (v : A) (apart : (r q : Refusal) → f r ≡ f q → r ≡ q) (value : (q : Refusal) → v ≡ f q → ⊥) where
-  only-first : (rules : List (Bool × Refusal)) (q : Refusal) → ruled rules f v ≡ f q → FirstIs rules q
+  -- never where no rule says it
+  pub refused-not : (rules : List (Bool × Refusal)) (q : Refusal) → Unsaid rules q → ruled rules f v ≡ f q → ⊥
   unfolding choose
-  only-first [] q e = value q e
-  only-first (rule ∷ rules) q e = go (only-first rules q) (rule .0) refl e
+  refused-not [] q u e = value q e
+  refused-not (rule ∷ rules) q u e = go (rule .0) (refused-not rules q (u .1)) e
     where
-      go : (ruled rules f v ≡ f q → FirstIs rules q) → (b : Bool) → rule .0 ≡ b → choose b (f (rule .1)) (ruled rules f v) ≡ f q → FirstIs (rule ∷ rules) q
-      go rest true h e = inl (h, apart (rule .1) q e)
-      go rest false h e = inr (h, rest e)
+      go : (b : Bool) → (ruled rules f v ≡ f q → ⊥) → choose b (f (rule .1)) (ruled rules f v) ≡ f q → ⊥
+      go true rest h = u .0 (apart (rule .1) q h)
+      go false rest h = rest h
 
-  when-first : (rules : List (Bool × Refusal)) (q : Refusal) → FirstIs rules q → ruled rules f v ≡ f q
+  -- that of the first rule, where no other says it: exactly when the rule holds
+  pub refused-first : (b : Bool) (r : Refusal) (rules : List (Bool × Refusal)) → Unsaid rules r → (ruled ((b, r) ∷ rules) f v ≡ f r) ↔ (b ≡ true)
   unfolding choose
-  when-first [] q z = absurd z
-  when-first (rule ∷ rules) q (inl (h, e)) = rw h (ap f e)
-  when-first (rule ∷ rules) q (inr (h, w)) = rw h (when-first rules q w)
+  refused-first b r rules u = (only b, λ e. rw e refl)
+    where
+      only : (b : Bool) → choose b (f r) (ruled rules f v) ≡ f r → b ≡ true
+      only true h = refl
+      only false h = absurd (refused-not rules r u h)
 
-  pub refused-exactly : (rules : List (Bool × Refusal)) (q : Refusal) → (ruled rules f v ≡ f q) ↔ FirstIs rules q
-  refused-exactly rules q = (only-first rules q, when-first rules q)
+  -- any other: exactly when the first rule does not hold and the later rules give it
+  pub refused-later : (b : Bool) (r : Refusal) (rules : List (Bool × Refusal)) (q : Refusal) → (r ≡ q → ⊥) → (ruled ((b, r) ∷ rules) f v ≡ f q) ↔ ((b ≡ false) × (ruled rules f v ≡ f q))
+  unfolding choose
+  refused-later b r rules q differ = (only b, λ h. rw (h .0) (h .1))
+    where
+      only : (b : Bool) → choose b (f r) (ruled rules f v) ≡ f q → (b ≡ false) × (ruled rules f v ≡ f q)
+      only true h = absurd (differ (apart r q h))
+      only false h = (refl, h)
+
+-- nothing is refused exactly when no rule holds, in any reading of that which fits the value and no refusal
+module _ {ℓ κ} {A : Type ℓ} (Accepted : A → Type κ) (f : Refusal → A) (v : A) (value : Accepted v) (never : (q : Refusal) → Accepted (f q) → ⊥) where
+  only-passed : (rules : List (Bool × Refusal)) → Accepted (ruled rules f v) → Passed rules
+  unfolding choose
+  only-passed [] h = tt
+  only-passed (rule ∷ rules) h = go (rule .0) refl (only-passed rules) h
+    where
+      go : (b : Bool) → rule .0 ≡ b → (Accepted (ruled rules f v) → Passed rules) → Accepted (choose b (f (rule .1)) (ruled rules f v)) → Passed (rule ∷ rules)
+      go true e rest h = absurd (never (rule .1) h)
+      go false e rest h = (e, rest h)
+
+  pub accepted-exactly : (rules : List (Bool × Refusal)) → Accepted (ruled rules f v) ↔ Passed rules
+  accepted-exactly rules = (only-passed rules, λ h. rw (passed rules f v h) value)
