@@ -237,7 +237,17 @@ fn awaited(
         return steps::refusing(coordinator, table, Refusal::NotAwaited);
     }
     let heard = heard_in(coordinator, table, board, exchange, acked, header, payload);
-    taken(coordinator, table, heard, exchange, board, requester, header, payload, out)
+    taken(
+        coordinator,
+        table,
+        heard,
+        exchange,
+        board,
+        requester,
+        header,
+        payload,
+        out,
+    )
 }
 
 // A good frame: it has to be for us, in a wait.
@@ -276,12 +286,7 @@ fn listened(
 }
 
 // The step of bytes received.
-pub fn receive(
-    coordinator: Coordinator,
-    table: Table,
-    received: &[u8],
-    out: &mut [u8],
-) -> Stepped
+pub fn receive(coordinator: Coordinator, table: Table, received: &[u8], out: &mut [u8]) -> Stepped
     ensures { λ r. ⌜ (shown r ≡ shows (receiveOf coordinator (table .nodes) (now (received .entry)) (length (now (out .entry))))) × (now (out .exit) ≡ laid (receiveOf coordinator (table .nodes) (now (received .entry)) (length (now (out .entry))) .bytes) (now (out .entry))) ⌝ }
 {
     if !coordinator::fits(coordinator, table) {
