@@ -30,6 +30,16 @@ gave (rule ∷ rules) us vs h = go (gave rules us vs) (rule .0) refl h
     go rest true e q = absurd (not-zero (rule .1) (ap (λ (t : Told). t .number) q))
     go rest false e q = ((e, rest q .0), rest q .1)
 
+-- an answer from which a 0 is read that is read off no refusal passed every rule
+pub unrefused {ℓ} : {A : Type ℓ} (g : A → ℕ) (rules : List (Bool × Refusal)) (f : Refusal → A) (v : A) → ((q : Refusal) → g (f q) ≡ 0 → ⊥) → g (ruled rules f v) ≡ 0 → Passed rules
+unfolding choose
+unrefused g [] f v n h = tt
+unrefused g (rule ∷ rules) f v n h = go (unrefused g rules f v n) (rule .0) refl h
+  where
+    go : (g (ruled rules f v) ≡ 0 → Passed rules) → (b : Bool) → rule .0 ≡ b → g (choose b (f (rule .1)) (ruled rules f v)) ≡ 0 → Passed (rule ∷ rules)
+    go rest true e q = absurd (n (rule .1) q)
+    go rest false e q = (e, rest q)
+
 -- an answer that refuses does so for anything that the same rules guard
 pub refused {ℓ} : {A : Type ℓ} (rules : List (Bool × Refusal)) (us : List ℕ) (f : Refusal → A) (v : A) (q : Refusal) → ruled rules refuses (gives us) ≡ refuses q → ruled rules f v ≡ f q
 unfolding choose
