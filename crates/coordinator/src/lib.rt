@@ -5,6 +5,8 @@ ghost use mathlib.Core.Path.{_≡_};
 ghost use Rattle.board.specs.Table.{listedAt};
 ghost use Rattle.coordinator.specs.Phase.{phaseOf, stand, standOf};
 ghost use Rattle.coordinator.specs.Fit.{isRequest, isResponse, exchangeFits, phaseFits, holdFits, fits};
+ghost use Rattle.coordinator.specs.Fresh.{blankKept, fresh, blankTable};
+ghost use Rattle.coordinator.specs.Change.{withPhase, offered, holding, keeping};
 
 // The kinds of exchange in which the panel waits for a board.
 pub enum Exchange {
@@ -207,4 +209,78 @@ pub fn fits(coordinator: Coordinator, table: Table) -> bool
         & (setup::table_fits(k, table)
             & (phase_fits(phase, table, coordinator.kept)
                 & (hold_fits(coordinator.held, table) & (coordinator.last <= k))))
+}
+
+// Nothing is kept.
+fn blank_kept() -> Kept
+    ensures { λ r. ⌜ r ≡ blankKept ⌝ }
+{
+    Kept {
+        message: 0,
+        packet: 0,
+        kind: 0,
+        method: 0,
+        parameter: 0,
+        length: 0,
+        payload: [0u8; 240],
+    }
+}
+
+// The coordinator of a fresh start.
+pub fn fresh(setup: Setup) -> Coordinator
+    ensures { λ r. ⌜ r ≡ fresh setup ⌝ }
+{
+    Coordinator {
+        setup: setup,
+        last: 0,
+        held: 0,
+        stand: stand_of(Phase::Resting),
+        kept: blank_kept(),
+    }
+}
+
+// The table of a fresh start.
+pub fn blank_table() -> Table
+    ensures { λ r. ⌜ r .nodes ≡ blankTable ⌝ }
+{
+    let node = board::blank_node();
+    Table { nodes: [node; 40] }
+}
+
+// The coordinator in another phase.
+pub fn with_phase(coordinator: Coordinator, phase: Phase) -> Coordinator
+    ensures { λ r. ⌜ r ≡ withPhase coordinator phase ⌝ }
+{
+    let mut c = coordinator;
+    c.stand = stand_of(phase);
+    c
+}
+
+// The coordinator that has offered a board the bus.
+pub fn offered(coordinator: Coordinator, board: usize) -> Coordinator
+    ensures { λ r. ⌜ r ≡ offered coordinator board ⌝ }
+{
+    let mut c = coordinator;
+    c.last = board;
+    c.held = 0;
+    c.stand = stand_of(awaiting(board, Exchange::Offer, 0, false));
+    c
+}
+
+// The coordinator with joins held or not.
+pub fn holding(coordinator: Coordinator, held: bool) -> Coordinator
+    ensures { λ r. ⌜ r ≡ holding coordinator held ⌝ }
+{
+    let mut c = coordinator;
+    c.held = held as u8;
+    c
+}
+
+// The coordinator with another message kept.
+pub fn keeping(coordinator: Coordinator, kept: Kept) -> Coordinator
+    ensures { λ r. ⌜ r ≡ keeping coordinator kept ⌝ }
+{
+    let mut c = coordinator;
+    c.kept = kept;
+    c
 }
