@@ -31,7 +31,7 @@ pub fn write_to(
     frame::write(to_board(setup, board, header), payload, out)
 }
 
-// Writes a message of our own to a board.
+// Writes a message of our own to a board. The header's first three fields are `write_to`'s to say.
 fn write_own(
     setup: Setup,
     table: Table,
@@ -43,13 +43,14 @@ fn write_own(
 ) -> Writing
     ensures { λ r. ⌜ Sends (ownHeader setup (table .nodes) board message packet) (now (payload .entry)) r (now (out .entry)) (now (out .exit)) ⌝ }
 {
+    let index = board::index_of(table, board);
     let header = Header {
         destination: 0,
         source: 0,
         subnet: 0,
         method: 0,
         parameter1: 0,
-        parameter2: board::index_of(table, board) as u8,
+        parameter2: index as u8,
         kind: 165,
         message: message,
         packet: packet,
@@ -92,7 +93,7 @@ pub fn write_signed(setup: Setup, table: Table, board: usize, code: u8, out: &mu
     write_own(setup, table, board, 0, 0x80, &payload, out)
 }
 
-// Writes the node list to a board.
+// Writes the node list to a board. A list has at most 41 bytes, so that the buffer always holds it.
 pub fn write_list(setup: Setup, table: Table, board: usize, out: &mut [u8]) -> Writing
     ensures { λ r. ⌜ Sends (listHeader setup (table .nodes) board) (nodeList (setup .internal) (table .nodes)) r (now (out .entry)) (now (out .exit)) ⌝ }
 {

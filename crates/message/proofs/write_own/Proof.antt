@@ -21,7 +21,7 @@ same-length c = search needs
 
 returns : tie.Need-returns
 unfolding ownHeader toBoard
-returns c = rw (c .before .before .before .before .index-of .ensures) at (c .before .before .write-to .ensures)
+returns c = rw (← (c .before .before .before .before .index-of .ensures)) (c .before .before .write-to .ensures)
 
 pub write-own-spec : {M : Type 1} → statement M
 write-own-spec =
