@@ -1,0 +1,5 @@
+pub mod Rules
+pub mod Numbers
+pub mod Moves
+pub mod Quiet
+pub mod Turn
