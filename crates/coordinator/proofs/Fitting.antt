@@ -46,6 +46,13 @@ pub listed-some : (t : List Node) (p : ℕ) → length t ≡ 40 → listedAt t p
 unfolding someListed
 listed-some t p e h = some-of (listedAt t) 41 p (omega (arith, listed-within t p e h .1)) h
 
+pub none-listed : (t : List Node) (p : ℕ) → length t ≡ 40 → someListed t ≡ false → listedAt t p ≡ false
+none-listed t p e h = go (listedAt t p) refl
+  where
+    go : (b : Bool) → listedAt t p ≡ b → listedAt t p ≡ false
+    go true l = absurd (false≢true (sym h ∙ listed-some t p e l))
+    go false l = l
+
 -- where somebody is listed, the lowest listed position is one
 pub some-listed : (t : List Node) → someListed t ≡ true → listedAt t (lowestOf t ListedOnes 40) ≡ true
 some-listed t h = go (lowest-case t ListedOnes 40)
@@ -56,7 +63,7 @@ some-listed t h = go (lowest-case t ListedOnes 40)
 
 -- what is kept
 
-request-told : (m : Kept) → isRequest m ≡ true → Request m
+pub request-told : (m : Kept) → isRequest m ≡ true → Request m
 request-told m h =
     record {
       message = record { from = ltb-true 0 (m .message) (and-left (ltb 0 (m .message)) _ h3); upTo = omega (arith, ltb-true (m .message) 128 (and-right (ltb 0 (m .message)) _ h3)) };
@@ -73,13 +80,13 @@ request-told m h =
     h3 : (ltb 0 (m .message) && ltb (m .message) 128) ≡ true
     h3 = and-left _ (ltb 0 (m .method)) h2
 
-request-passes : (m : Kept) → Request m → isRequest m ≡ true
+pub request-passes : (m : Kept) → Request m → isRequest m ≡ true
 request-passes m f = both _ _ (both _ _ (both _ _ (both _ _ (lt-ltb 0 (m .message) (f .message .from)) (lt-ltb (m .message) 128 (omega (arith, f .message .upTo)))) (lt-ltb 0 (m .method) (f .method .from))) (le-leb (m .method) 3 (f .method .upTo))) (le-leb (m .length) 240 (f .payload))
 
-response-told : (m : Kept) → isResponse m ≡ true → Response m
+pub response-told : (m : Kept) → isResponse m ≡ true → Response m
 response-told m h = record { message = ltb-true 128 (m .message) (and-left (ltb 128 (m .message)) _ h); payload = leb-true (m .length) 240 (and-right (ltb 128 (m .message)) _ h) }
 
-response-passes : (m : Kept) → Response m → isResponse m ≡ true
+pub response-passes : (m : Kept) → Response m → isResponse m ≡ true
 response-passes m f = both _ _ (lt-ltb 128 (m .message) (f .message)) (le-leb (m .length) 240 (f .payload))
 
 -- the phase: the boards that it names are listed, and what it needs is kept
@@ -92,6 +99,13 @@ module _ (t : List Node) where
   two-boards b q h i p (inl e) = one-board b h p e
   two-boards b q h i p (inr e) = one-board q i p e
 
+  -- a wait that asks for nothing more than its board
+  plain-told : (b : ℕ) → (listedAt t b && true) ≡ true → ((p : ℕ) → p ≡ b → Listed t p) × Unit {0}
+  plain-told b h = (one-board b (and-left (listedAt t b) true h), tt)
+
+  plain-passes : (b : ℕ) → ((p : ℕ) → p ≡ b → Listed t p) → (listedAt t b && true) ≡ true
+  plain-passes b n = both _ _ (listed-passes t b (n b refl)) refl
+
   module _ (m : Kept) where
     forward-told : (b q : ℕ) → (listedAt t b && (listedAt t q && isRequest m)) ≡ true → ((p : ℕ) → (p ≡ b) ⊎ (p ≡ q) → Listed t p) × Request m
     forward-told b q h = (two-boards b q (and-left (listedAt t b) _ h) (and-left (listedAt t q) _ rest), request-told m (and-right (listedAt t q) _ rest))
@@ -102,17 +116,13 @@ module _ (t : List Node) where
     forward-passes : (b q : ℕ) → ((p : ℕ) → (p ≡ b) ⊎ (p ≡ q) → Listed t p) → Request m → (listedAt t b && (listedAt t q && isRequest m)) ≡ true
     forward-passes b q n f = both _ _ (listed-passes t b (n b (inl refl))) (both _ _ (listed-passes t q (n q (inr refl))) (request-passes m f))
 
-    -- a wait that asks for nothing more than its board
-    plain-passes : (b : ℕ) → ((p : ℕ) → p ≡ b → Listed t p) → (listedAt t b && true) ≡ true
-    plain-passes b n = both _ _ (listed-passes t b (n b refl)) refl
-
     pub phase-told : (p : Phase) → phaseFits p t m ≡ true → ((q : ℕ) → Names p q → Listed t q) × KeptFor p m
     unfolding phaseFits
     phase-told Resting h = ((λ q n. absurd n), tt)
-    phase-told (Awaiting b Offer q a) h = (one-board b (and-left (listedAt t b) true h), tt)
-    phase-told (Awaiting b Listing q a) h = (one-board b (and-left (listedAt t b) true h), tt)
+    phase-told (Awaiting b Offer q a) h = plain-told b h
+    phase-told (Awaiting b Listing q a) h = plain-told b h
     phase-told (Awaiting b Forward q a) h = forward-told b q h
-    phase-told (Awaiting b Return q a) h = (one-board b (and-left (listedAt t b) true h), tt)
+    phase-told (Awaiting b Return q a) h = plain-told b h
     phase-told (ForwardDue b q) h = forward-told b q h
     phase-told (ReturnDue b) h = (one-board b (and-left (listedAt t b) (isResponse m) h), response-told m (and-right (listedAt t b) (isResponse m) h))
     phase-told Unknown h = absurd (false≢true h)
@@ -233,6 +243,12 @@ pub record Board (c : Coordinator) (t : List Node) (p : ℕ) : Type 0 where
   pub upTo : p ≤ c .setup .k
   pub few : c .setup .k ≤ 40
 
+-- a request is carried to board b for board q
+pub record Carried (c : Coordinator) (t : List Node) (b q : ℕ) : Type 0 where
+  pub board : Board c t b
+  pub requester : Board c t q
+  pub request : isRequest (c .kept) ≡ true
+
 module _ (c : Coordinator) (t : List Node) (h : fits c t ≡ true) where
   pub board-listed : (p : ℕ) → listedAt t p ≡ true → Board c t p
   board-listed p l = record { listed = l; from = here .from; upTo = here .upTo; few = fit-told c t h .setup .pool .upTo }
@@ -242,34 +258,28 @@ module _ (c : Coordinator) (t : List Node) (h : fits c t ≡ true) where
 
   -- the boards that the phase names, and what is kept for them
 
-  pub awaited-board : {b : ℕ} {e : Exchange} {q : ℕ} {a : Bool} → phaseOf (c .stand) ≡ Awaiting b e q a → Board c t b
+  pub awaited : {b : ℕ} {e : Exchange} {q : ℕ} {a : Bool} → phaseOf (c .stand) ≡ Awaiting b e q a → Board c t b
   unfolding phaseFits
-  awaited-board {b} w = board-listed b (and-left (listedAt t b) _ (fits-in c t h w))
+  awaited {b} w = board-listed b (and-left (listedAt t b) _ (fits-in c t h w))
 
-  pub awaited-requester : {b q : ℕ} {a : Bool} → phaseOf (c .stand) ≡ Awaiting b Forward q a → Board c t q
-  unfolding phaseFits
-  awaited-requester {b} {q} w = board-listed q (and-left (listedAt t q) _ (and-right (listedAt t b) _ (fits-in c t h w)))
+  carried : (b q : ℕ) → (listedAt t b && (listedAt t q && isRequest (c .kept))) ≡ true → Carried c t b q
+  carried b q e = record { board = board-listed b (and-left (listedAt t b) _ e); requester = board-listed q (and-left (listedAt t q) _ rest); request = and-right (listedAt t q) _ rest }
+    where
+      rest : (listedAt t q && isRequest (c .kept)) ≡ true
+      rest = and-right (listedAt t b) _ e
 
-  pub awaited-request : {b q : ℕ} {a : Bool} → phaseOf (c .stand) ≡ Awaiting b Forward q a → isRequest (c .kept) ≡ true
+  pub awaited-forward : {b q : ℕ} {a : Bool} → phaseOf (c .stand) ≡ Awaiting b Forward q a → Carried c t b q
   unfolding phaseFits
-  awaited-request {b} {q} w = and-right (listedAt t q) _ (and-right (listedAt t b) _ (fits-in c t h w))
+  awaited-forward {b} {q} w = carried b q (fits-in c t h w)
 
-  pub forward-board : {b q : ℕ} → phaseOf (c .stand) ≡ ForwardDue b q → Board c t b
+  pub due-forward : {b q : ℕ} → phaseOf (c .stand) ≡ ForwardDue b q → Carried c t b q
   unfolding phaseFits
-  forward-board {b} w = board-listed b (and-left (listedAt t b) _ (fits-in c t h w))
+  due-forward {b} {q} w = carried b q (fits-in c t h w)
 
-  pub forward-requester : {b q : ℕ} → phaseOf (c .stand) ≡ ForwardDue b q → Board c t q
+  pub due-return : {b : ℕ} → phaseOf (c .stand) ≡ ReturnDue b → Board c t b
   unfolding phaseFits
-  forward-requester {b} {q} w = board-listed q (and-left (listedAt t q) _ (and-right (listedAt t b) _ (fits-in c t h w)))
+  due-return {b} w = board-listed b (and-left (listedAt t b) _ (fits-in c t h w))
 
-  pub forward-request : {b q : ℕ} → phaseOf (c .stand) ≡ ForwardDue b q → isRequest (c .kept) ≡ true
+  pub due-response : {b : ℕ} → phaseOf (c .stand) ≡ ReturnDue b → isResponse (c .kept) ≡ true
   unfolding phaseFits
-  forward-request {b} {q} w = and-right (listedAt t q) _ (and-right (listedAt t b) _ (fits-in c t h w))
-
-  pub return-board : {b : ℕ} → phaseOf (c .stand) ≡ ReturnDue b → Board c t b
-  unfolding phaseFits
-  return-board {b} w = board-listed b (and-left (listedAt t b) _ (fits-in c t h w))
-
-  pub return-response : {b : ℕ} → phaseOf (c .stand) ≡ ReturnDue b → isResponse (c .kept) ≡ true
-  unfolding phaseFits
-  return-response {b} w = and-right (listedAt t b) _ (fits-in c t h w)
+  due-response {b} w = and-right (listedAt t b) _ (fits-in c t h w)

@@ -24,7 +24,10 @@ hold-fits-requires c κs = search needs
 
 returns : tie.Need-returns
 unfolding fits
-returns c = let forty : length (c .before .before .before .before .before .before .before .args .table .nodes) ≡ 40 = simp length-map at (c .before .before .before .before .before .before .before .good .1 .0 .1 .1 .0 .1 .0 .1) in rw forty (cc)
+returns c = rw forty (cc)
+  where
+    forty : length (c .before .before .before .before .before .before .before .args .table .nodes) ≡ 40
+    forty = simp length-map at (c .before .before .before .before .before .before .before .good .1 .0 .1 .1 .0 .1 .0 .1)
 
 pub fits-spec : {M : Type 1} → statement M
 fits-spec =
