@@ -3,3 +3,5 @@ pub mod Numbers
 pub mod Moves
 pub mod Quiet
 pub mod Turn
+pub mod Join
+pub mod Frame

@@ -10,9 +10,10 @@ use Rattle.ground.specs.Choose.{choose}
 use Rattle.ground.specs.Below.{one}
 use Rattle.ground.proofs.Loops.{one-le}
 use Rattle.ground.proofs.Counts.{count-within}
-use Rattle.refusal.specs.Refusal.{Told, numberOf}
+use Rattle.refusal.specs.Refusal.{Told, numberOf, ruled}
 use Rattle.refusal.specs.declared.Refusal.{Refusal}
 use Rattle.refusal.proofs.Numbers.{not-zero}
+use Rattle.refusal.proofs.Rules.{Passed}
 use Rattle.board.specs.declared.Node.{Node}
 use Rattle.board.specs.declared.Wanted.{Wanted}
 use Rattle.board.specs.declared.Wanted.the-variants.{Listed, Owed}
@@ -35,6 +36,7 @@ use Rattle.coordinator.proofs.Fitting.{Board, fits-forty, board-listed, fit-tol
 use Rattle.steps.specs.After.{After, refused, accepted, waits, delivers, transmits, rests}
 use Rattle.series.specs.Series.{isAccepted, offeredTo}
 use Rattle.turns.specs.Potential.{unheld, underWay, potential, between}
+use Rattle.turns.proofs.Rules.{each, by-rules}
 use Rattle.turns.proofs.Numbers.{ahead-most}
 
 -- it refuses, and all is as it was
@@ -66,6 +68,10 @@ pub refusing : (c : Coordinator) (t : List Node) (r : Refusal) → Moves c t (re
 unfolding choose
 refusing c t r = refuses (record { said = ne-eqb (numberOf r) 0 (not-zero r); nobody = refl; coordinator = refl; nodes = refl })
 
+-- what rules guard is a refusal, or what it is where they pass
+pub guarded : (c : Coordinator) (t : List Node) (rules : List (Bool × Refusal)) (a : After) → (Passed rules → Moves c t a) → Moves c t (ruled rules (refused c t) a)
+guarded c t rules a m = by-rules (Moves c t) rules (refused c t) a (each (refusing c t) rules) m
+
 -- an answer that is accepted and offers nothing
 abbrev pub Plain : Told → Type 0
 Plain says = (isAccepted says ≡ true) × (offeredTo says ≡ 0)
@@ -82,12 +88,17 @@ pub plain-delivers : Plain delivers
 unfolding choose
 plain-delivers = (refl, refl)
 
-pub plain-waits : (board : ℕ) (e : Exchange) → (e ≡ Offer → ⊥) → Plain (waits board e)
+pub plain-list : (board : ℕ) → Plain (waits board Listing)
 unfolding choose
-plain-waits board Offer ne = absurd (ne refl)
-plain-waits board Listing ne = (refl, refl)
-plain-waits board Forward ne = (refl, refl)
-plain-waits board Return ne = (refl, refl)
+plain-list board = (refl, refl)
+
+pub plain-forward : (board : ℕ) → Plain (waits board Forward)
+unfolding choose
+plain-forward board = (refl, refl)
+
+pub plain-return : (board : ℕ) → Plain (waits board Return)
+unfolding choose
+plain-return board = (refl, refl)
 
 -- a wait that ends leaves less under way, where the lists are owed as before or it was no list's
 pub wait-ends : (k b q : ℕ) (e : Exchange) (a : Bool) (old new : ℕ) → new ≤ k → (e ≡ Listing → new ≡ old) → underWay k Resting new < underWay k (Awaiting b e q a) old

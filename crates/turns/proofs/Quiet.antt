@@ -25,13 +25,12 @@ use Rattle.coordinator.specs.Phase.{phaseOf}
 use Rattle.coordinator.specs.Fit.{fits}
 use Rattle.coordinator.specs.Change.{withPhase, holding}
 use Rattle.coordinator.proofs.Phases.{resting, phase-back}
-use Rattle.coordinator.proofs.Fitting.{Board, fits-forty, awaited-board}
+use Rattle.coordinator.proofs.Fitting.{Board, fits-forty, awaited}
 use Rattle.steps.specs.After.{After, refused, accepted, rests}
 use Rattle.steps.specs.Quiet.{droppedAt, missedAt, quietValue, quietRules, quietIn, quietOf}
 use Rattle.turns.specs.Potential.{ahead, unheld, underWay, potential}
-use Rattle.turns.proofs.Rules.{each, by-rules}
 use Rattle.turns.proofs.Numbers.{ahead-drop}
-use Rattle.turns.proofs.Moves.{Moves, works, refusing, plain-rests, listed-most, put-keeps, ended}
+use Rattle.turns.proofs.Moves.{Moves, works, refusing, guarded, plain-rests, listed-most, put-keeps, ended}
 
 -- a wait has at least its end under way
 waiting-least : (k b q : ℕ) (e : Exchange) (a : Bool) (owed : ℕ) → 1 ≤ underWay k (Awaiting b e q a) owed
@@ -49,7 +48,7 @@ module _ (c : Coordinator) (t : List Node) (h : fits c t ≡ true) where
     one-less = omega (arith, count-owe-all (put t b none), count-put Listed t b none (fits-forty c t h) (here .from) (omega (arith, here .upTo, here .few)), ap one (here .listed))
       where
         here : Board c t b
-        here = awaited-board c t h w
+        here = awaited c t h w
 
     -- the room that the drop leaves takes the lists that it owes
     drop-falls : 1 ≤ countOf Listed (oweAll (put t b none)) → potential (withPhase c Resting) (oweAll (put t b none)) < potential c t
@@ -74,7 +73,7 @@ module _ (c : Coordinator) (t : List Node) (h : fits c t ≡ true) where
     missing true = ended c t h (put t b (missed (at t b))) rests [] w plain-rests (put-keeps c t h Listed (missed (at t b)) here refl) (λ e. put-keeps c t h Owed (missed (at t b)) here refl)
       where
         here : Board c t b
-        here = awaited-board c t h w
+        here = awaited c t h w
     missing false = dropping (someListed (put t b none)) refl
 
     ending : (s : Bool) → Moves c t (choose s (accepted (withPhase c Resting) t rests []) (missedAt c t b))
@@ -91,4 +90,4 @@ module _ (c : Coordinator) (t : List Node) (h : fits c t ≡ true) where
 
   pub quiet-moves : Moves c t (quietOf c t)
   unfolding quietIn
-  quiet-moves = by-rules (Moves c t) (quietRules (phaseOf (c .stand)) c t) (refused c t) (quietValue (phaseOf (c .stand)) c t) (each (refusing c t) _) (λ passed. value-moves (phaseOf (c .stand)) refl)
+  quiet-moves = guarded c t (quietRules (phaseOf (c .stand)) c t) (quietValue (phaseOf (c .stand)) c t) (λ passed. value-moves (phaseOf (c .stand)) refl)
