@@ -12,7 +12,7 @@ use Rattle.ground.proofs.Choices.{and-right, either, neither}
 use Rattle.refusal.specs.Refusal.{Told}
 use Rattle.refusal.specs.declared.Refusal.{Refusal}
 use Rattle.refusal.specs.declared.Refusal.the-variants.{NotAwaited, NoRoom, UnexpectedType, BadEcho, BadMethod}
-use Rattle.refusal.proofs.Rules.{Passed}
+use Rattle.refusal.proofs.Rules.{Passed, each, by-rules}
 use Rattle.frame.specs.declared.Header.{Header}
 use Rattle.frame.specs.Frame.{headerOf}
 use Rattle.board.specs.declared.Node.{Node}
@@ -39,7 +39,6 @@ use Rattle.coordinator.proofs.Fitting.{Board, awaited}
 use Rattle.steps.specs.After.{refused, accepted, waits, delivers, transmits, rests}
 use Rattle.steps.specs.Receive.{payload, hear, hearAck, keptOf, acking, routed, takenAs, takenIn, receiveRules, receiveIn, receiveOf}
 use Rattle.turns.specs.Potential.{underWay}
-use Rattle.turns.proofs.Rules.{each, by-rules}
 use Rattle.turns.proofs.Moves.{Moves, refusing, guarded, Plain, plain-rests, plain-delivers, plain-transmits, plain-forward, put-keeps, moved, ended}
 
 -- a second ACK in a forward's wait is not taken

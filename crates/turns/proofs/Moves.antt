@@ -13,7 +13,7 @@ use Rattle.ground.proofs.Counts.{count-within}
 use Rattle.refusal.specs.Refusal.{Told, numberOf, ruled}
 use Rattle.refusal.specs.declared.Refusal.{Refusal}
 use Rattle.refusal.proofs.Numbers.{not-zero}
-use Rattle.refusal.proofs.Rules.{Passed}
+use Rattle.refusal.proofs.Rules.{Passed, each, by-rules}
 use Rattle.board.specs.declared.Node.{Node}
 use Rattle.board.specs.declared.Wanted.{Wanted}
 use Rattle.board.specs.declared.Wanted.the-variants.{Listed, Owed}
@@ -36,7 +36,6 @@ use Rattle.coordinator.proofs.Fitting.{Board, fits-forty, board-listed, fit-tol
 use Rattle.steps.specs.After.{After, refused, accepted, waits, delivers, transmits, rests}
 use Rattle.series.specs.Series.{isAccepted, offeredTo}
 use Rattle.turns.specs.Potential.{unheld, underWay, potential, between}
-use Rattle.turns.proofs.Rules.{each, by-rules}
 use Rattle.turns.proofs.Numbers.{ahead-most}
 
 -- it refuses, and all is as it was

@@ -24,6 +24,14 @@ pub ahead-most : (k n joins : ℕ) → 1 ≤ k → n ≤ k → joins ≤ 1 → a
 unfolding ahead
 ahead-most k n joins h l o = omega (arith, squared k h, mul-le-mul-left (dropSteps k) (let e : n - 1 + joins ≤ k = omega arith in e), mul-le-mul-right (joinSteps k) o)
 
--- one round step nearer is worth as many steps as there can be between two offers
-pub nearer : (m near far : ℕ) → near < far → near * m + m ≤ far * m
-nearer m near far h = omega (arith, mul-le-mul-right m (let e : suc near ≤ far = omega arith in e))
+-- with m the steps that there can be to an offer: coming nearer is worth m of them, whatever the potential becomes
+pub steps-nearer : (m steps near far old new : ℕ) → near < far → new < m → steps + m ≤ near * m + new → steps + 1 + m ≤ far * m + old
+steps-nearer m steps near far old new h l e = omega (arith, mul-le-mul-right m (let q : suc near ≤ far = omega arith in q))
+
+-- where p is listed it is at least one step away
+pub steps-start : (m far old : ℕ) → 1 ≤ far → m ≤ far * m + old
+steps-start m far old h = omega (arith, mul-le-mul-right m h)
+
+-- and at most k steps
+pub steps-most : (m steps far k old : ℕ) → far ≤ k → old < m → steps + m ≤ far * m + old → steps < k * m
+steps-most m steps far k old h l e = omega (arith, mul-le-mul-right m h)
