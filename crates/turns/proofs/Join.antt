@@ -41,11 +41,12 @@ module _ (c : Coordinator) (t : List Node) (h : fits c t ≡ true) where
   unfolding potential underWay
   join-falls p n w free f l =
       rw (w, free)
-      (omega
-      (arith,
-      ahead-join (c .setup .k) (countOf Listed t) (countOf Listed (oweAll (put t p n))) l (omega (arith, count-owe-all (put t p n), count-put-most Listed t p n (fits-forty c t h))),
-      owed-listed (oweAll (put t p n)),
-      listed-most (holding c true) (oweAll (put t p n)) f))
+      (omega (
+        arith,
+        ahead-join (c .setup .k) (countOf Listed t) (countOf Listed (oweAll (put t p n))) l (omega (arith, count-owe-all (put t p n), count-put-most Listed t p n (fits-forty c t h))),
+        owed-listed (oweAll (put t p n)),
+        listed-most (holding c true) (oweAll (put t p n)) f,
+      ))
 
   pub join-moves : (kind mac session : ℕ) → Moves c t (joinOf c t kind mac session)
   unfolding joinOf

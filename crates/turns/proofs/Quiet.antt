@@ -55,13 +55,14 @@ module _ (c : Coordinator) (t : List Node) (h : fits c t ≡ true) where
     unfolding potential underWay
     drop-falls n =
         rw (phase-back resting, w)
-        (omega
-        (arith,
-        ahead-drop (c .setup .k) (countOf Listed t) (countOf Listed (oweAll (put t b none))) (unheld (c .held)) n one-less,
-        waiting-least (c .setup .k) b q e a (countOf Owed t),
-        owed-listed (oweAll (put t b none)),
-        one-less,
-        listed-most c t h))
+        (omega (
+          arith,
+          ahead-drop (c .setup .k) (countOf Listed t) (countOf Listed (oweAll (put t b none))) (unheld (c .held)) n one-less,
+          waiting-least (c .setup .k) b q e a (countOf Owed t),
+          owed-listed (oweAll (put t b none)),
+          one-less,
+          listed-most c t h,
+        ))
 
     dropping : (s : Bool) → someListed (put t b none) ≡ s → Moves c t (record { coordinator = choose s (withPhase c Resting) (holding (withPhase c Resting) false); nodes = oweAll (put t b none); says = rests; bytes = []; joined = 0; dropped = b })
     unfolding choose
