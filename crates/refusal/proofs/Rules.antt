@@ -60,16 +60,6 @@ ruled-through g (rule ∷ rules) f v = go (rule .0) (ruled-through g rules f v)
     go true e = refl
     go false e = e
 
--- an answer from which a 0 is read that is read off no refusal passed every rule
-pub unrefused {ℓ} : {A : Type ℓ} (g : A → ℕ) (rules : List (Bool × Refusal)) (f : Refusal → A) (v : A) → ((q : Refusal) → g (f q) ≡ 0 → ⊥) → g (ruled rules f v) ≡ 0 → Passed rules
-unfolding choose
-unrefused g [] f v n h = tt
-unrefused g (rule ∷ rules) f v n h = go (unrefused g rules f v n) (rule .0) refl h
-  where
-    go : (g (ruled rules f v) ≡ 0 → Passed rules) → (b : Bool) → rule .0 ≡ b → g (choose b (f (rule .1)) (ruled rules f v)) ≡ 0 → Passed (rule ∷ rules)
-    go rest true e q = absurd (n (rule .1) q)
-    go rest false e q = (e, rest q)
-
 -- no rule says this refusal
 abbrev pub Unsaid : List (Bool × Refusal) → Refusal → Type 0
 Unsaid [] q = Unit {0}
