@@ -20,9 +20,13 @@ use Rattle.steps.specs.Quiet.{quietRules, quietValue, quietIn, quietOf}
 Silent : After → Type 0
 Silent a = a .bytes ≡ []
 
+refusal-silent : (c : Coordinator) (t : List Node) (r : Refusal) → Silent (refused c t r)
+unfolding Silent
+refusal-silent c t r = refl
+
 pub join-silent : (c : Coordinator) (t : List Node) (kind mac session : ℕ) → joinOf c t kind mac session .bytes ≡ []
 unfolding joinOf Silent
-join-silent c t kind mac session = by-rules Silent (joinRules c t kind mac) (refused c t) _ (each (λ r. refl) (joinRules c t kind mac)) (λ h. refl)
+join-silent c t kind mac session = by-rules Silent (joinRules c t kind mac) (refused c t) _ (each (refusal-silent c t) (joinRules c t kind mac)) (λ h. refl)
 
 silent-choice : (b : Bool) (x y : After) → Silent x → Silent y → Silent (choose b x y)
 unfolding choose
@@ -39,4 +43,4 @@ silent-value Unknown c t = refl
 
 pub quiet-silent : (c : Coordinator) (t : List Node) → quietOf c t .bytes ≡ []
 unfolding quietIn Silent
-quiet-silent c t = by-rules Silent (quietRules (phaseOf (c .stand)) c t) (refused c t) _ (each (λ r. refl) (quietRules (phaseOf (c .stand)) c t)) (λ h. silent-value (phaseOf (c .stand)) c t)
+quiet-silent c t = by-rules Silent (quietRules (phaseOf (c .stand)) c t) (refused c t) _ (each (refusal-silent c t) (quietRules (phaseOf (c .stand)) c t)) (λ h. silent-value (phaseOf (c .stand)) c t)
