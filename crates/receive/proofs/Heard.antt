@@ -1,21 +1,21 @@
 -- What an accepted frame does: its board is heard and no other; what is written is an ACK to the sender. A refused frame changes nothing.
-use Prim.Native.Nat.{ℕ, _+_, _≤_, _<_, _^_}
+use Prim.Native.Nat.{ℕ, _≤_, _<_, _^_}
 use native.Mathlib.Omega.{arith}
 use mathlib.Core.Path.{_≡_, refl, sym, ap, subst, _∙_}
 use mathlib.Core.Logic.{_⊎_, inl, inr}
-use mathlib.Core.Bool.{Bool, true, false, false≢true}
+use mathlib.Core.Bool.{Bool, true, false, _&&_, _||_, false≢true}
 use mathlib.Core.List.{List, [], _∷_, _++_}
-use lib.ListN.{length}
+use lib.ListN.{length, getD}
 use lib.Dec.{eqb, ltb}
-use borrow.Author.Tests.{eqb-true, not-false}
+use borrow.Author.Tests.{eqb-true, ne-eqb, not-false}
 use Rattle.ground.specs.Choose.{choose}
-use Rattle.refusal.specs.Refusal.{Told, gives}
+use Rattle.refusal.specs.Refusal.{Told, numberOf, gives}
 use Rattle.refusal.specs.declared.Refusal.{Refusal}
 use Rattle.refusal.specs.declared.Refusal.the-variants.{NoRoom}
 use Rattle.refusal.proofs.Numbers.{not-zero}
 use Rattle.refusal.proofs.Rules.{Passed, passed, unrefused}
 use Rattle.frame.specs.declared.Header.{Header}
-use Rattle.frame.specs.Frame.{fields, headerOf, reading, payloadOf}
+use Rattle.frame.specs.Frame.{headerOf, reading, payloadOf}
 use Rattle.frame.proofs.RoundTrip.{reads-back, reads-back-payload}
 use Rattle.board.specs.declared.Node.{Node}
 use Rattle.board.specs.Table.{at, put}
@@ -37,7 +37,7 @@ use Rattle.coordinator.specs.Phase.{phaseOf}
 use Rattle.coordinator.specs.Fit.{fits}
 use Rattle.coordinator.proofs.Fitting.{Board, fits-forty, fit-told, awaited}
 use Rattle.steps.specs.declared.Event.the-variants.{Frame}
-use Rattle.steps.specs.After.{After, refused, accepted}
+use Rattle.steps.specs.After.{After, refused, accepted, delivers, transmits}
 use Rattle.steps.specs.Receive.{payload, awaits, heardIn, hear, hearAck, acked, acking, takenAs, takenIn, receiveRules, receiveIn, receiveOf}
 use Rattle.steps.proofs.Refusals.{Plain, plain-step, Unchanged, refusal-changes-nothing}
 
@@ -92,31 +92,43 @@ module _ (t : List Node) (board : ℕ) (from : 1 ≤ board) (upTo : board ≤ le
   cleared-taken Answer e requester c h p room a = cleared-acking c room _ _ a
   cleared-taken (Refused r) e requester c h p room a = absurd (not-zero r a)
 
+-- the answer is deliver or transmit
+abbrev pub acks : Told → Bool
+acks says = eqb (says .number) 0 && (eqb (getD (says .values) 0 0) 2 || eqb (getD (says .values) 0 0) 3)
+
+-- nothing is written, and the answer is another
+abbrev pub Silent : After → Type 0
+Silent a = (a .bytes ≡ []) × (acks (a .says) ≡ false)
+
+silent-refusal : (c : Coordinator) (t : List Node) (r : Refusal) → Silent (refused c t r)
+silent-refusal c t r = (refl, rw (ne-eqb (numberOf r) 0 (not-zero r)) refl)
+
 -- what a frame writes in a wait: nothing, or the ACK to the board
-written-taken : (k : Heard) (e : Exchange) (board requester : ℕ) (c : Coordinator) (t : List Node) (h : Header) (p : List ℕ) (room : ℕ) → (takenAs k e board requester c t h p room .bytes ≡ []) ⊎ (takenAs k e board requester c t h p room .bytes ≡ signedFrame (c .setup) t board ackCode)
-unfolding choose
-written-taken k e board requester c t h p room = go k
-  where
-    ack : (e : Exchange) → acked e board requester c (hearAck t board (ackSession p)) .bytes ≡ []
-    ack Offer = refl
-    ack Listing = refl
-    ack Forward = refl
-    ack Return = refl
+module _ (e : Exchange) (board requester : ℕ) (c : Coordinator) (t : List Node) (h : Header) (p : List ℕ) (room : ℕ) where
+  abbrev Written : After → Type 0
+  Written a = (a .bytes ≡ signedFrame (c .setup) t board ackCode) × (acks (a .says) ≡ true)
 
-    due : (says : Told) (after : Coordinator) → (acking c t board room says after .bytes ≡ []) ⊎ (acking c t board room says after .bytes ≡ signedFrame (c .setup) t board ackCode)
-    due says after = choice (ltb room 29)
-      where
-        choice : (b : Bool) → (choose b (refused c t NoRoom) (accepted after (hear t board) says (signedFrame (c .setup) t board ackCode)) .bytes ≡ []) ⊎ (choose b (refused c t NoRoom) (accepted after (hear t board) says (signedFrame (c .setup) t board ackCode)) .bytes ≡ signedFrame (c .setup) t board ackCode)
-        choice true = inl refl
-        choice false = inr refl
+  written-acked : (e : Exchange) → Silent (acked e board requester c (hearAck t board (ackSession p)))
+  written-acked Offer = (refl, refl)
+  written-acked Listing = (refl, refl)
+  written-acked Forward = (refl, refl)
+  written-acked Return = (refl, refl)
 
-    go : (k : Heard) → (takenAs k e board requester c t h p room .bytes ≡ []) ⊎ (takenAs k e board requester c t h p room .bytes ≡ signedFrame (c .setup) t board ackCode)
-    go Ack = inl (ack e)
-    go Echo = due _ _
-    go Deliver = due _ _
-    go Route = due _ _
-    go Answer = due _ _
-    go (Refused r) = inl refl
+  written-acking : (says : Told) (after : Coordinator) → acks says ≡ true → Silent (acking c t board room says after) ⊎ Written (acking c t board room says after)
+  unfolding choose
+  written-acking says after q = go (ltb room 29)
+    where
+      go : (b : Bool) → Silent (choose b (refused c t NoRoom) (accepted after (hear t board) says (signedFrame (c .setup) t board ackCode))) ⊎ Written (choose b (refused c t NoRoom) (accepted after (hear t board) says (signedFrame (c .setup) t board ackCode)))
+      go true = inl (refl, refl)
+      go false = inr (refl, q)
+
+  written-taken : (k : Heard) → Silent (takenAs k e board requester c t h p room) ⊎ Written (takenAs k e board requester c t h p room)
+  written-taken Ack = inl (written-acked e)
+  written-taken Echo = written-acking transmits _ refl
+  written-taken Deliver = written-acking delivers _ refl
+  written-taken Route = written-acking transmits _ refl
+  written-taken Answer = written-acking transmits _ refl
+  written-taken (Refused r) = inl (silent-refusal c t r)
 
 -- what bytes do in a wait
 abbrev inWait : Exchange → ℕ → ℕ → Bool → Coordinator → List Node → List ℕ → ℕ → After
@@ -187,17 +199,20 @@ ack-to c t board source f e =
       form = λ l. subst (Form 6 (c .setup .mac) (c .setup .session)) (sym (reads-back-payload (signedHeader (c .setup) t board) (signed (c .setup) ackCode) (signed-small (c .setup) ackCode))) (ack-form (c .setup) (omega (arith, fit-told c t f .setup .mac .below)) l);
     }
 
--- the bytes that a frame writes, if any, are an ACK that reads well to its sender
-pub written-is-ack : (c : Coordinator) (t : List Node) (b : List ℕ) (room : ℕ) → (receiveOf c t b room .bytes ≡ []) ⊎ AckTo c t (headerOf b .source) (receiveOf c t b room .bytes)
+-- where the panel delivers or transmits it writes an ACK that reads well to the sender of the frame, and elsewhere nothing
+abbrev pub Answers : Coordinator → List Node → ℕ → After → Type 0
+Answers c t source a = Silent a ⊎ (AckTo c t source (a .bytes) × (acks (a .says) ≡ true))
+
+pub written-is-ack : (c : Coordinator) (t : List Node) (b : List ℕ) (room : ℕ) → Answers c t (headerOf b .source) (receiveOf c t b room)
 written-is-ack c t b room = go (plain-step c t Frame b room)
   where
-    taken-bytes : (k : Taken c t b room) → (inWait (k .exchange) (k .board) (k .requester) (k .came) c t b room .bytes ≡ []) ⊎ (inWait (k .exchange) (k .board) (k .requester) (k .came) c t b room .bytes ≡ signedFrame (c .setup) t (k .board) ackCode) → (receiveOf c t b room .bytes ≡ []) ⊎ AckTo c t (headerOf b .source) (receiveOf c t b room .bytes)
-    taken-bytes k (inl e) = inl (ap (λ (x : After). x .bytes) (k .does) ∙ e)
-    taken-bytes k (inr e) = inr (subst (AckTo c t (headerOf b .source)) (sym (ap (λ (x : After). x .bytes) (k .does) ∙ e)) (ack-to c t (k .board) (headerOf b .source) (k .fit) (k .sender)))
+    taken-bytes : (k : Taken c t b room) (a : After) → Silent a ⊎ ((a .bytes ≡ signedFrame (c .setup) t (k .board) ackCode) × (acks (a .says) ≡ true)) → Answers c t (headerOf b .source) a
+    taken-bytes k a (inl s) = inl s
+    taken-bytes k a (inr (e, q)) = inr (subst (AckTo c t (headerOf b .source)) (sym e) (ack-to c t (k .board) (headerOf b .source) (k .fit) (k .sender)), q)
 
-    in-wait : (k : Taken c t b room) → (receiveOf c t b room .bytes ≡ []) ⊎ AckTo c t (headerOf b .source) (receiveOf c t b room .bytes)
-    in-wait k = taken-bytes k (written-taken (heardIn (k .exchange) (k .board) (k .came) c t (headerOf b) (payload b)) (k .exchange) (k .board) (k .requester) c t (headerOf b) (payload b) room)
+    in-wait : (k : Taken c t b room) → Answers c t (headerOf b .source) (receiveOf c t b room)
+    in-wait k = subst (Answers c t (headerOf b .source)) (sym (k .does)) (taken-bytes k (inWait (k .exchange) (k .board) (k .requester) (k .came) c t b room) (written-taken (k .exchange) (k .board) (k .requester) c t (headerOf b) (payload b) room (heardIn (k .exchange) (k .board) (k .came) c t (headerOf b) (payload b))))
 
-    go : Plain c t (receiveOf c t b room) → (receiveOf c t b room .bytes ≡ []) ⊎ AckTo c t (headerOf b .source) (receiveOf c t b room .bytes)
+    go : Plain c t (receiveOf c t b room) → Answers c t (headerOf b .source) (receiveOf c t b room)
     go (inl a) = in-wait (taken-of c t b room a)
-    go (inr (r, e)) = inl (ap (λ (x : After). x .bytes) e)
+    go (inr (r, e)) = subst (Answers c t (headerOf b .source)) (sym e) (inl (silent-refusal c t r))

@@ -4,7 +4,7 @@ use native.Mathlib.Omega.{arith}
 use mathlib.Core.Path.{_≡_, refl, sym, ap, subst, _∙_}
 use mathlib.Core.Bool.{Bool, true, false, not}
 use mathlib.Core.List.{List, [], _∷_, _++_}
-use lib.ListN.{length, take, drop, length-take}
+use lib.ListN.{length, length-take}
 use lib.Dec.{ltb}
 use borrow.Author.Tests.{eq-eqb, ne-eqb}
 use types.Run.{OneOf, miss}
@@ -12,7 +12,7 @@ use denote.Enum.Declared.{tagOf}
 use Rattle.ground.specs.Bytes.{laid}
 use Rattle.ground.specs.Choose.{choose}
 use Rattle.ground.proofs.Choices.{choose-yes, choose-no, not-yes, not-no}
-use Rattle.refusal.specs.Refusal.{Told, refuses, gives, ruled}
+use Rattle.refusal.specs.Refusal.{Told, refuses, gives}
 use Rattle.refusal.specs.declared.Refusal.{Refusal}
 use Rattle.refusal.specs.declared.Refusal.the-variants.{StateUnfit, NotForUs, NotAwaited, NoRoom}
 use Rattle.refusal.proofs.Rules.{Passed, passed, gave, refused as refused-for}

@@ -6,7 +6,6 @@ use mathlib.Core.List.{List, [], _∷_}
 use lib.Dec.{eqb}
 use Rattle.ground.specs.Bytes.{laid}
 use Rattle.refusal.specs.Refusal.{Told, ruled}
-use Rattle.refusal.specs.declared.Refusal.{Refusal}
 use Rattle.refusal.specs.declared.Refusal.the-variants.{NotForUs, NotAwaited}
 use Rattle.frame.specs.declared.Header.{Header}
 use Rattle.board.specs.declared.Node.{Node}

@@ -1,6 +1,5 @@
 -- `receive::listened` meets its contract: 5, then 6 where nothing is waited for, else what the wait gets.
 use denote.Ref.{now}
-use mathlib.Core.Path.{sym, _∙_}
 use Rattle.refusal.specs.declared.Refusal.the-variants.{NotForUs, NotAwaited}
 use Rattle.receive.proofs.Leaving.{leaves-same, leaves-refused, listened-not-ours, listened-idle, listened-waited}
 use borrow.Author.Needs.{needs}

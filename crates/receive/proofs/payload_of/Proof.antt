@@ -1,5 +1,5 @@
 -- `receive::payload_of` meets its contract. The loop's invariant: the bytes passed stand at the front. The measure is what is left of the payload.
-use Prim.Native.Nat.{_+_, _-_, _≤_}
+use Prim.Native.Nat.{_-_, _≤_}
 use mathlib.Core.Path.{_≡_}
 use mathlib.Core.List.{_++_}
 use lib.ListN.{length, take, drop}
