@@ -1,4 +1,5 @@
 -- `turn::send_forward` meets its contract: an index fits a byte.
+use Prim.Native.Nat.{_≤_}
 use native.Mathlib.Omega.{arith}
 use lib.ListN.{length-map}
 use Rattle.board.proofs.Index.{index-within}
@@ -10,7 +11,9 @@ index-of-requires : tie.Need-index-of-requires
 index-of-requires c κs = search needs
 
 cast-send-carried : tie.Need-cast-send-carried
-cast-send-carried c = record { fits = omega (arith, c .index-of .ensures, index-within (c .before .before .args .table .nodes) (c .before .before .args .requester) (simp length-map at (c .before .before .good .1 .0 .1 .1 .0 .1 .0 .1))) }
+cast-send-carried c =
+    let small : c .index-of .result ≤ 40 = rw (c .index-of .ensures) (index-within _ _ (simp length-map at (c .before .before .good .1 .0 .1 .1 .0 .1 .0 .1))) in
+    record { fits = omega arith }
 
 send-carried-requires : tie.Need-send-carried-requires
 send-carried-requires c κs = search needs
