@@ -1,8 +1,13 @@
 -- `turn::send_forward` meets its contract: an index fits a byte.
 use Prim.Native.Nat.{_≤_}
 use native.Mathlib.Omega.{arith}
+use mathlib.Core.Path.{sym, ap}
 use lib.ListN.{length-map}
+use denote.Ref.{now}
 use Rattle.board.proofs.Index.{index-within}
+use Rattle.coordinator.specs.declared.Exchange.the-variants.{Forward}
+use Rattle.steps.specs.Turn.{dueCarried}
+use Rattle.turn.proofs.Sending.{leaves-due}
 use borrow.Author.Needs.{needs}
 use Rattle.turn.proofs.send_forward.Statement.{statement}
 use Rattle.turn.proofs.send_forward.Tie as tie
@@ -22,7 +27,9 @@ same-length : tie.Need-same-length
 same-length c = search needs
 
 returns : tie.Need-returns
-returns c = rw (← (c .before .before .before .before .index-of .ensures)) (c .before .before .send-carried .ensures)
+returns c =
+    let args = c .before .before .before .before .before .before .args in
+    leaves-due (args .coordinator) (args .table .nodes) (c .before .before .send-carried .result) (now (args .out)) _ (ap (dueCarried (args .coordinator) (args .table .nodes) (args .board) Forward (args .requester)) (sym (c .before .before .before .before .index-of .ensures))) (c .before .before .send-carried .ensures)
 
 pub send-forward-spec : {M : Type 1} → statement M
 send-forward-spec =
