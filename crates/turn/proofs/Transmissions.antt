@@ -1,4 +1,4 @@
--- What a turn sends: a good frame, to a listed board's address, from us in our subnet; a forward and a return carry what was kept.
+-- What a turn sends: a good frame, to a listed board's address, from us in our subnet; and what it says in each exchange.
 use Prim.Native.Nat.{ℕ, _≤_, _<_, min}
 use native.Mathlib.Omega.{arith}
 use mathlib.Core.Path.{_≡_, refl, sym, ap, subst, _∙_}
@@ -22,15 +22,17 @@ use Rattle.board.specs.Wanted.{wantedAt, lowestOf, someListed, indexOf}
 use Rattle.board.specs.Round.{nextListed}
 use Rattle.board.proofs.LowestWanted.{lowest-case}
 use Rattle.board.proofs.NextListed.{next-nearest}
+use Rattle.setup.specs.declared.Setup.{Setup}
 use Rattle.setup.specs.Setup.{address}
 use Rattle.setup.specs.Fitness.{Position}
 use Rattle.setup.proofs.Apart.{address-from, address-upTo}
-use Rattle.message.specs.Message.{toBoard, ownHeader, offerCode}
+use Rattle.nodelist.specs.List.{nodeList}
+use Rattle.message.specs.Message.{toBoard, ownHeader, signed, offerCode}
 use Rattle.message.proofs.Messages.{signed-small, list-small}
 use Rattle.coordinator.specs.declared.Coordinator.{Coordinator}
 use Rattle.coordinator.specs.declared.Kept.{Kept}
 use Rattle.coordinator.specs.declared.Exchange.{Exchange}
-use Rattle.coordinator.specs.declared.Exchange.the-variants.{Forward, Return}
+use Rattle.coordinator.specs.declared.Exchange.the-variants.{Offer, List as Listing, Forward, Return}
 use Rattle.coordinator.specs.declared.Phase.{Phase}
 use Rattle.coordinator.specs.declared.Phase.the-variants.{Resting, Awaiting, ForwardDue, ReturnDue, Unknown}
 use Rattle.coordinator.specs.Phase.{phaseOf}
@@ -60,6 +62,24 @@ pub record Carries (m : Kept) (second : ℕ) (bytes : List ℕ) : Type 0 where
   pub parameter1 : headerOf bytes .parameter1 ≡ m .parameter
   pub parameter2 : headerOf bytes .parameter2 ≡ second
   pub payload : payloadOf bytes ≡ take (m .length) (m .payload)
+
+-- bytes of our own: node type 165, method 0, parameter 1 0, parameter 2 the board's index, with this type, packet number and payload (01, "Turn": "Own frames")
+pub record Own (t : List Node) (board message packet : ℕ) (payload : List ℕ) (bytes : List ℕ) : Type 0 where
+  pub method : headerOf bytes .method ≡ 0
+  pub parameter1 : headerOf bytes .parameter1 ≡ 0
+  pub parameter2 : headerOf bytes .parameter2 ≡ indexOf t board
+  pub kind : headerOf bytes .kind ≡ 165
+  pub messageIs : headerOf bytes .message ≡ message
+  pub packetIs : headerOf bytes .packet ≡ packet
+  pub payloadIs : payloadOf bytes ≡ payload
+
+-- what the bytes to a board say in each exchange: an offer goes to the next after the last one offered, a list to the lowest owed;
+-- a forward carries what was kept with the index of the board that made the request, a return carries it with 0 (01, "Turn" and "Forward and return")
+abbrev pub Says : Coordinator → List Node → Exchange → ℕ → List ℕ → Type 0
+Says c t Offer b bytes = (b ≡ nextListed t (c .setup .k) (c .last)) × Own t b 0 128 (signed (c .setup) offerCode) bytes
+Says c t Listing b bytes = (b ≡ owedTo c t) × Own t b 20 0 (nodeList (c .setup .internal) t) bytes
+Says c t Forward b bytes = (q : ℕ) × (phaseOf (c .stand) ≡ ForwardDue b q) × Carries (c .kept) (indexOf t q) bytes
+Says c t Return b bytes = (phaseOf (c .stand) ≡ ReturnDue b) × Carries (c .kept) 0 bytes
 
 module _ (c : Coordinator) (t : List Node) where
   -- what is due in a phase is one of four
@@ -170,6 +190,20 @@ carried-back c t b e q second small =
       payload = reads-back-payload (dueCarried c t b e q second .header) (dueCarried c t b e q second .payload) small;
     }
 
+-- so does a message of our own
+own-back : (s : Setup) (t : List Node) (b message packet : ℕ) (p : List ℕ) → length p ≤ 240 → Own t b message packet p (frameOf (ownHeader s t b message packet) p)
+unfolding frameOf ownHeader
+own-back s t b message packet p small =
+    record {
+      method = refl;
+      parameter1 = refl;
+      parameter2 = refl;
+      kind = refl;
+      messageIs = refl;
+      packetIs = refl;
+      payloadIs = reads-back-payload (ownHeader s t b message packet) p small;
+    }
+
 module _ (c : Coordinator) (t : List Node) where
   -- the frame of what is due goes to its board
   goes-due : fits c t ≡ true → someListed t ≡ true → {p : Phase} {d : Due} → phaseOf (c .stand) ≡ p → DueCase c t p d → Goes c t (d .board) (frameOf (d .header) (d .payload))
@@ -191,40 +225,31 @@ module _ (c : Coordinator) (t : List Node) where
       headed : Headed c t d
       headed = case-headed c t k
 
-  -- a forward and a return are due in their own phases only
-  forward-case : {p : Phase} {d : Due} (b : ℕ) → DueCase c t p d → length (d .payload) ≤ 240 → d .board ≡ b → d .exchange ≡ Forward → (q : ℕ) × (p ≡ ForwardDue b q) × Carries (c .kept) (indexOf t q) (frameOf (d .header) (d .payload))
-  forward-case b (returning x) small e f = absurd (let z : _≡_ {A = ℕ} 0 1 = cc f in omega arith)
-  forward-case b (forwarding x q) small e f = (q, ap (λ (y : ℕ). ForwardDue y q) e, carried-back c t x Forward q (indexOf t q) small)
-  forward-case b (listing p l) small e f = absurd (let z : _≡_ {A = ℕ} 0 1 = cc f in omega arith)
-  forward-case b (offering p) small e f = absurd (let z : _≡_ {A = ℕ} 0 1 = cc f in omega arith)
+  -- and says what its exchange asks
+  says-due : {p : Phase} {d : Due} → phaseOf (c .stand) ≡ p → DueCase c t p d → length (d .payload) ≤ 240 → Says c t (d .exchange) (d .board) (frameOf (d .header) (d .payload))
+  says-due e (returning b) small = (e, carried-back c t b Return 0 0 small)
+  says-due e (forwarding b q) small = (q, e, carried-back c t b Forward q (indexOf t q) small)
+  says-due e (listing p l) small = (refl, own-back (c .setup) t (owedTo c t) 20 0 (nodeList (c .setup .internal) t) small)
+  says-due e (offering p) small = (refl, own-back (c .setup) t (nextListed t (c .setup .k) (c .last)) 0 128 (signed (c .setup) offerCode) small)
 
-  return-case : {p : Phase} {d : Due} (b : ℕ) → DueCase c t p d → length (d .payload) ≤ 240 → d .board ≡ b → d .exchange ≡ Return → (p ≡ ReturnDue b) × Carries (c .kept) 0 (frameOf (d .header) (d .payload))
-  return-case b (returning x) small e f = (ap ReturnDue e, carried-back c t x Return 0 0 small)
-  return-case b (forwarding x q) small e f = absurd (let z : _≡_ {A = ℕ} 0 1 = cc f in omega arith)
-  return-case b (listing p l) small e f = absurd (let z : _≡_ {A = ℕ} 0 1 = cc f in omega arith)
-  return-case b (offering p) small e f = absurd (let z : _≡_ {A = ℕ} 0 1 = cc f in omega arith)
+  module _ (room b : ℕ) (e : Exchange) (waiting : turnOf c t room .says ≡ waits b e) where
+    k : Taken c t room b e
+    k = taken c t room b e waiting
 
-  module _ (room b : ℕ) where
+    abbrev d : Due
+    d = dueIn (phaseOf (c .stand)) c t
+
+    due : DueCase c t (phaseOf (c .stand)) d
+    due = due-case c t (phaseOf (c .stand))
+
     -- whatever a turn writes goes to the board that it then waits for
-    pub turn-goes : (e : Exchange) → turnOf c t room .says ≡ waits b e → Goes c t b (turnOf c t room .bytes)
-    turn-goes e h = subst (λ (x : List ℕ). Goes c t b x) (sym (k .bytes)) (subst (λ (x : ℕ). Goes c t x (frameOf (d .header) (d .payload))) (k .board) (goes-due (k .fit) (k .listed) refl (due-case c t (phaseOf (c .stand)))))
-      where
-        k : Taken c t room b e
-        k = taken c t room b e h
+    pub turn-goes : Goes c t b (turnOf c t room .bytes)
+    turn-goes = subst (λ (x : List ℕ). Goes c t b x) (sym (k .bytes)) (subst (λ (x : ℕ). Goes c t x (frameOf (d .header) (d .payload))) (k .board) (goes-due (k .fit) (k .listed) refl due))
 
-        d : Due
-        d = dueIn (phaseOf (c .stand)) c t
-
-    -- a forward carries the request that was kept, with the index of the board that made it
-    pub turn-forwards : turnOf c t room .says ≡ waits b Forward → (q : ℕ) × (phaseOf (c .stand) ≡ ForwardDue b q) × Carries (c .kept) (indexOf t q) (turnOf c t room .bytes)
-    turn-forwards h = rw (k .bytes) (forward-case b (due-case c t (phaseOf (c .stand))) (case-small c t (k .fit) refl (due-case c t (phaseOf (c .stand)))) (k .board) (k .exchange))
-      where
-        k : Taken c t room b Forward
-        k = taken c t room b Forward h
-
-    -- a return carries the response that was kept, with 0
-    pub turn-returns : turnOf c t room .says ≡ waits b Return → (phaseOf (c .stand) ≡ ReturnDue b) × Carries (c .kept) 0 (turnOf c t room .bytes)
-    turn-returns h = rw (k .bytes) (return-case b (due-case c t (phaseOf (c .stand))) (case-small c t (k .fit) refl (due-case c t (phaseOf (c .stand)))) (k .board) (k .exchange))
-      where
-        k : Taken c t room b Return
-        k = taken c t room b Return h
+    -- and says what the exchange asks
+    pub turn-says : Says c t e b (turnOf c t room .bytes)
+    turn-says =
+        subst (λ (x : Exchange). Says c t x b (turnOf c t room .bytes)) (k .exchange)
+        (subst (λ (x : ℕ). Says c t (d .exchange) x (turnOf c t room .bytes)) (k .board)
+        (subst (λ (x : List ℕ). Says c t (d .exchange) (d .board) x) (sym (k .bytes))
+        (says-due refl due (case-small c t (k .fit) refl due))))

@@ -15,14 +15,14 @@ use steps::Stepped;
 ghost use mathlib.Core.Path.{_≡_};
 ghost use Prim.Native.Nat.{_≤_};
 ghost use lib.ListN.{length, take};
-ghost use Rattle.ground.specs.Bytes.{laid};
 ghost use mathlib.Core.Bool.{false};
+ghost use Rattle.ground.specs.Bytes.{laid};
+ghost use Rattle.board.specs.Wanted.{indexOf};
+ghost use Rattle.message.specs.Message.{toBoard, Sends};
+ghost use Rattle.coordinator.specs.declared.Exchange.the-variants.{Forward, Return};
 ghost use Rattle.coordinator.specs.Change.{withPhase};
 ghost use Rattle.steps.specs.After.{shown, shows};
 ghost use Rattle.steps.specs.Turn.{carriedHeader, dueCarried, dueList, dueOffer, dueOwn, dueIn, isAwaiting, turnOf};
-ghost use Rattle.coordinator.specs.declared.Exchange.the-variants.{Forward, Return};
-ghost use Rattle.board.specs.Wanted.{indexOf};
-ghost use Rattle.message.specs.Message.{toBoard, Sends};
 ghost use Rattle.turn.specs.Sending.{Leaves, sending, shownOf};
 
 // The step after a transmission. Where it was written the panel waits for the board, with the coordinator and the records
@@ -74,8 +74,8 @@ fn waiting(
     coordinator::with_phase(coordinator, phase)
 }
 
-// Writes the message that is kept to a board. The message says its header but for parameter 2; whom it goes to and comes
-// from is for the writer to say.
+// Writes the message that is kept to a board. Its length is cut at the array's, so that no length is out of bounds; whom
+// it goes to and comes from is for the writer to say.
 fn write_carried(kept: Kept, setup: Setup, board: usize, parameter2: u8, out: &mut [u8]) -> Writing
     ensures { λ r. ⌜ (length (take (kept .length) (kept .payload)) ≤ 240) × Sends (toBoard setup board (carriedHeader kept parameter2)) (take (kept .length) (kept .payload)) r (now (out .entry)) (now (out .exit)) ⌝ }
 {
@@ -185,8 +185,8 @@ fn send_own(coordinator: Coordinator, table: Table, out: &mut [u8]) -> Stepped
     if 0 < owed {
         return send_list(coordinator, table, owed, out);
     }
-    let next = board::next_listed(table, k, coordinator.last);
-    send_offer(coordinator, table, next, out)
+    let board = board::next_listed(table, k, coordinator.last);
+    send_offer(coordinator, table, board, out)
 }
 
 // The next transmission: a return or a forward that is due, else our own.
