@@ -2,8 +2,8 @@
 use Prim.Native.Nat.{ℕ, zero, suc, _+_, _-_, _*_, _≤_, _<_}
 use native.Mathlib.Omega.{arith}
 use native.Mathlib.Nat.{mul-suc, mul-le-mul-left, mul-le-mul-right}
-use mathlib.Core.Path.{_≡_, refl, ap, _∙_}
-use Rattle.turns.specs.Potential.{listSteps, joinSteps, dropSteps, ahead, between}
+use mathlib.Core.Path.{_≡_, ap}
+use Rattle.turns.specs.Potential.{joinSteps, dropSteps, ahead}
 
 -- a join, which makes one board more at most, leaves room for itself and a list to each of k boards
 pub ahead-join : (k n m : ℕ) → 1 ≤ n → m ≤ n + 1 → ahead k m 0 + joinSteps k ≤ ahead k n 1
