@@ -2,10 +2,10 @@
 use Prim.Native.Nat.{ℕ, zero, suc, _+_, _≤_, _<_}
 use native.Mathlib.Omega.{arith}
 use native.Mathlib.Decide.{ℕ-discrete}
-use mathlib.Core.Path.{_≡_, refl, sym, ap, _∙_}
-use mathlib.Core.Bool.{Bool, true, false, false≢true}
+use mathlib.Core.Path.{_≡_, refl, sym, ap}
+use mathlib.Core.Bool.{Bool, true, false}
 use Rattle.ground.specs.Below.{one, some, count}
-use Rattle.ground.proofs.Loops.{count-same, count-le, none-of, count-no}
+use Rattle.ground.proofs.Loops.{count-same, none-of, count-no}
 
 -- two tests that agree but at x have counts that differ as they do there
 pub count-change : (p q : ℕ → Bool) (n x : ℕ) → x < n → ((i : ℕ) → (i ≡ x → ⊥) → p i ≡ q i) → count p n + one (q x) ≡ count q n + one (p x)

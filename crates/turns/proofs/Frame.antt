@@ -1,18 +1,18 @@
 -- What a frame is: a refusal, or work.
-use Prim.Native.Nat.{ℕ, _+_, _≤_, _<_}
+use Prim.Native.Nat.{ℕ, _+_}
 use native.Mathlib.Omega.{arith}
-use mathlib.Core.Path.{_≡_, refl, sym, ap, _∙_}
+use mathlib.Core.Path.{_≡_, refl, _∙_}
 use mathlib.Core.Logic.{_⊎_, inl, inr}
 use mathlib.Core.Bool.{Bool, true, false, not, _&&_, _||_, false≢true}
 use mathlib.Core.List.{List, [], _∷_}
-use lib.Dec.{eqb, leb, ltb}
+use lib.Dec.{eqb, ltb}
 use borrow.Author.Tests.{eqb-true, not-false}
 use Rattle.ground.specs.Choose.{choose}
 use Rattle.ground.proofs.Choices.{and-right, either, neither}
 use Rattle.refusal.specs.Refusal.{Told}
 use Rattle.refusal.specs.declared.Refusal.{Refusal}
 use Rattle.refusal.specs.declared.Refusal.the-variants.{NotAwaited, NoRoom, UnexpectedType, BadEcho, BadMethod}
-use Rattle.refusal.proofs.Rules.{Passed, each, by-rules}
+use Rattle.refusal.proofs.Rules.{each, by-rules}
 use Rattle.frame.specs.declared.Header.{Header}
 use Rattle.frame.specs.Frame.{headerOf}
 use Rattle.board.specs.declared.Node.{Node}
@@ -23,7 +23,6 @@ use Rattle.board.specs.Change.{heard, renewed, oweAll}
 use Rattle.board.proofs.Counts.{count-owe-all}
 use Rattle.message.specs.Message.{signedFrame, ackCode}
 use Rattle.routing.specs.Route.{routeOf}
-use Rattle.accept.specs.declared.Heard.{Heard}
 use Rattle.accept.specs.declared.Heard.the-variants.{Ack, Echo, Deliver, Route, Answer, Refused}
 use Rattle.accept.specs.Accept.{ackType, requestType, unexpected, ackSession, heardAfterOffer, heardAfterList, heardAfterForward, heardAfterReturn}
 use Rattle.coordinator.specs.declared.Coordinator.{Coordinator}
@@ -37,7 +36,7 @@ use Rattle.coordinator.specs.Change.{withPhase, keeping}
 use Rattle.coordinator.proofs.Phases.{forwarding, forward-due, return-due}
 use Rattle.coordinator.proofs.Fitting.{Board, awaited}
 use Rattle.steps.specs.After.{refused, accepted, waits, delivers, transmits, rests}
-use Rattle.steps.specs.Receive.{payload, hear, hearAck, keptOf, acking, routed, takenAs, takenIn, receiveRules, receiveIn, receiveOf}
+use Rattle.steps.specs.Receive.{payload, hear, hearAck, keptOf, acking, takenAs, takenIn, receiveRules, receiveIn, receiveOf}
 use Rattle.turns.specs.Potential.{underWay}
 use Rattle.turns.proofs.Moves.{Moves, refusing, guarded, Plain, plain-rests, plain-delivers, plain-transmits, plain-forward, put-keeps, moved, ended}
 

@@ -1,12 +1,11 @@
 -- What a join is: a refusal, or work.
-use Prim.Native.Nat.{ℕ, _+_, _≤_, _<_}
+use Prim.Native.Nat.{ℕ, _≤_, _<_}
 use native.Mathlib.Omega.{arith}
-use mathlib.Core.Path.{_≡_, refl, sym, ap, _∙_}
-use mathlib.Core.Bool.{Bool, true, false, not, _||_, false≢true}
-use mathlib.Core.List.{List, []}
+use mathlib.Core.Path.{_≡_, refl}
+use mathlib.Core.Bool.{true, false, not, false≢true}
+use mathlib.Core.List.{List}
 use lib.Dec.{eqb, ltb}
 use borrow.Author.Tests.{not-false}
-use Rattle.ground.specs.Below.{one}
 use Rattle.ground.proofs.Choices.{neither}
 use Rattle.refusal.proofs.Rules.{Passed}
 use Rattle.board.specs.declared.Node.{Node}
@@ -22,7 +21,6 @@ use Rattle.coordinator.specs.Phase.{phaseOf}
 use Rattle.coordinator.specs.Fit.{fits}
 use Rattle.coordinator.specs.Change.{holding}
 use Rattle.coordinator.proofs.Fitting.{fits-forty}
-use Rattle.steps.specs.After.{rests}
 use Rattle.steps.specs.Join.{isResting, chosen, joining, joinRules, joinOf}
 use Rattle.turns.specs.Potential.{underWay, potential}
 use Rattle.turns.proofs.Numbers.{ahead-join}

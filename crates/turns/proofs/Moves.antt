@@ -1,13 +1,12 @@
 -- What a step can be: a refusal, an offer to the next listed board, or work that lowers the potential; and what makes it one of them.
 use Prim.Native.Nat.{ℕ, _+_, _*_, _≤_, _<_}
 use native.Mathlib.Omega.{arith}
-use mathlib.Core.Path.{_≡_, refl, sym, ap, _∙_}
+use mathlib.Core.Path.{_≡_, refl}
 use mathlib.Core.Bool.{Bool, true, false, not}
-use mathlib.Core.List.{List, []}
+use mathlib.Core.List.{List}
 use lib.Dec.{eqb}
 use borrow.Author.Tests.{ne-eqb}
 use Rattle.ground.specs.Choose.{choose}
-use Rattle.ground.specs.Below.{one}
 use Rattle.ground.proofs.Loops.{one-le}
 use Rattle.ground.proofs.Counts.{count-within}
 use Rattle.refusal.specs.Refusal.{Told, numberOf, ruled}
@@ -21,7 +20,7 @@ use Rattle.board.specs.Table.{at, put, listedAt}
 use Rattle.board.specs.Wanted.{wants, countOf}
 use Rattle.board.specs.Round.{nextListed}
 use Rattle.board.proofs.LowestWanted.{listed-zero}
-use Rattle.board.proofs.Counts.{count-put, count-kept, owed-listed}
+use Rattle.board.proofs.Counts.{count-kept, owed-listed}
 use Rattle.coordinator.specs.declared.Coordinator.{Coordinator}
 use Rattle.coordinator.specs.declared.Exchange.{Exchange}
 use Rattle.coordinator.specs.declared.Exchange.the-variants.{Offer, List as Listing, Forward, Return}
@@ -35,7 +34,7 @@ use Rattle.coordinator.proofs.Phases.{Made, resting, phase-back}
 use Rattle.coordinator.proofs.Fitting.{Board, fits-forty, board-listed, fit-told}
 use Rattle.steps.specs.After.{After, refused, accepted, waits, delivers, transmits, rests}
 use Rattle.series.specs.Series.{isAccepted, offeredTo}
-use Rattle.turns.specs.Potential.{unheld, underWay, potential, between}
+use Rattle.turns.specs.Potential.{listSteps, unheld, afterOffer, underWay, potential, between}
 use Rattle.turns.proofs.Numbers.{ahead-most}
 
 -- it refuses, and all is as it was
@@ -133,8 +132,8 @@ module _ (c : Coordinator) (t : List Node) (h : fits c t ≡ true) where
   pub ended : {b r : ℕ} {e : Exchange} {a : Bool} (u : List Node) (says : Told) (bytes : List ℕ) → phaseOf (c .stand) ≡ Awaiting b e r a → Plain says → countOf Listed u ≡ countOf Listed t → (e ≡ Listing → countOf Owed u ≡ countOf Owed t) → Moves c t (accepted (withPhase c Resting) u says bytes)
   ended {b} {r} {e} {a} u says bytes w plain same owed = moved (c .kept) u says bytes resting plain same (rw w (wait-ends (c .setup .k) b r e a (countOf Owed t) (countOf Owed u) (owed-most u same) owed))
 
-  -- the potential is below what there can be between two offers
-  under-most : (p : Phase) → underWay (c .setup .k) p (countOf Owed t) ≤ 2 * c .setup .k + 6
+  -- what is under way is most after an offer
+  under-most : (p : Phase) → underWay (c .setup .k) p (countOf Owed t) ≤ listSteps * c .setup .k + afterOffer
   unfolding underWay
   under-most Resting = omega (arith, owed-most t refl)
   under-most (Awaiting b Offer q a) = omega arith
@@ -146,6 +145,7 @@ module _ (c : Coordinator) (t : List Node) (h : fits c t ≡ true) where
   under-most (ReturnDue b) = omega arith
   under-most Unknown = omega arith
 
+  -- so the potential is below what there can be between two offers
   pub potential-most : potential c t < between (c .setup .k)
   unfolding potential
   potential-most = omega (arith, under-most (phaseOf (c .stand)), ahead-most (c .setup .k) (countOf Listed t) (unheld (c .held)) k-least listed-most (one-le (not (eqb (c .held) 1))))

@@ -1,20 +1,20 @@
 -- "While anyone is listed, the panel, lent room for a frame, can make its next transmission or end its wait" (00, demand 3).
-use Prim.Native.Nat.{ℕ, _+_, _≤_, _<_}
+use Prim.Native.Nat.{ℕ, _+_, _≤_}
 use native.Mathlib.Omega.{arith}
-use mathlib.Core.Path.{_≡_, refl, sym, ap, _∙_}
+use mathlib.Core.Path.{_≡_, refl}
 use mathlib.Core.Logic.{_⊎_, inl, inr}
-use mathlib.Core.Bool.{Bool, true, false, not, false≢true}
+use mathlib.Core.Bool.{Bool, true, false, false≢true}
 use mathlib.Core.List.{List, []}
 use lib.Dec.{ltb}
 use lib.ListN.{length, take, length-take}
 use borrow.Author.Tests.{ltb-true, le-ltb}
 use Rattle.ground.specs.Choose.{choose}
 use Rattle.ground.proofs.Choices.{not-no}
-use Rattle.refusal.proofs.Rules.{Passed, passed}
+use Rattle.refusal.proofs.Rules.{passed}
 use Rattle.frame.proofs.RoundTrip.{long}
 use Rattle.board.specs.declared.Node.{Node}
 use Rattle.board.specs.declared.Wanted.the-variants.{Listed}
-use Rattle.board.specs.Table.{at, put, listedAt}
+use Rattle.board.specs.Table.{at, put}
 use Rattle.board.specs.Wanted.{lowestOf, someListed}
 use Rattle.board.specs.Change.{missed}
 use Rattle.board.specs.Round.{nextListed}
@@ -29,11 +29,11 @@ use Rattle.coordinator.specs.Phase.{phaseOf}
 use Rattle.coordinator.specs.Fit.{fits}
 use Rattle.coordinator.specs.Change.{withPhase}
 use Rattle.coordinator.proofs.Fitting.{Board, some-listed, fit-told, fits-known, board-listed, due-forward, due-return}
-use Rattle.steps.specs.After.{After, refused, accepted, rests}
+use Rattle.steps.specs.After.{refused, accepted, rests}
 use Rattle.steps.specs.Turn.{Due, dueList, dueOffer, dueIn, owedTo, isAwaiting, sent, turnRules, turnIn, turnOf}
 use Rattle.steps.specs.Quiet.{droppedAt, missedAt, quietValue, quietRules, quietIn, quietOf}
-use Rattle.series.specs.Series.{World, after, isAccepted, waitedFor}
-use Rattle.series.specs.Demand.{NeverStuck, Transmits}
+use Rattle.series.specs.Series.{after, isAccepted, waitedFor}
+use Rattle.series.specs.Demand.{NeverStuck}
 use Rattle.series.specs.Ours.{ours}
 use Rattle.lasting.proofs.Series.{lasting}
 

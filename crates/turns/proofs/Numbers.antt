@@ -2,8 +2,8 @@
 use Prim.Native.Nat.{ℕ, zero, suc, _+_, _-_, _*_, _≤_, _<_}
 use native.Mathlib.Omega.{arith}
 use native.Mathlib.Nat.{mul-suc, mul-le-mul-left, mul-le-mul-right}
-use mathlib.Core.Path.{_≡_, refl, ap, _∙_}
-use Rattle.turns.specs.Potential.{listSteps, joinSteps, dropSteps, ahead, between}
+use mathlib.Core.Path.{_≡_, ap}
+use Rattle.turns.specs.Potential.{listSteps, joinSteps, dropSteps, ahead}
 
 -- a join, which makes one board more at most, leaves room for itself and a list to each of k boards
 pub ahead-join : (k n m : ℕ) → 1 ≤ n → m ≤ n + 1 → ahead k m 0 + joinSteps k ≤ ahead k n 1
@@ -16,11 +16,11 @@ unfolding ahead
 ahead-drop k n m joins h e = omega (arith, ap (λ (i : ℕ). dropSteps k * i) (let q : n - 1 + joins ≡ suc (m - 1 + joins) = omega arith in q), mul-suc (dropSteps k) (m - 1 + joins))
 
 -- the most that may come, with k boards listed and joins not held
-squared : (k : ℕ) → 1 ≤ k → dropSteps k * k + joinSteps k ≡ 2 * (k * k) + 1
+squared : (k : ℕ) → 1 ≤ k → dropSteps k * k + joinSteps k ≡ listSteps * (k * k) + 1
 squared zero h = absurd (let z : ⊥ = omega arith in z)
 squared (suc j) h = rw (let e : suc j - 1 ≡ j = omega arith in e) (omega arith)
 
-pub ahead-most : (k n joins : ℕ) → 1 ≤ k → n ≤ k → joins ≤ 1 → ahead k n joins ≤ 2 * (k * k) + 1
+pub ahead-most : (k n joins : ℕ) → 1 ≤ k → n ≤ k → joins ≤ 1 → ahead k n joins ≤ listSteps * (k * k) + 1
 unfolding ahead
 ahead-most k n joins h l o = omega (arith, squared k h, mul-le-mul-left (dropSteps k) (let e : n - 1 + joins ≤ k = omega arith in e), mul-le-mul-right (joinSteps k) o)
 

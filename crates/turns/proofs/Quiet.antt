@@ -7,12 +7,11 @@ use mathlib.Core.List.{List, []}
 use lib.Dec.{ltb}
 use Rattle.ground.specs.Choose.{choose}
 use Rattle.ground.specs.Below.{one}
-use Rattle.refusal.specs.declared.Refusal.{Refusal}
 use Rattle.refusal.specs.declared.Refusal.the-variants.{NotWaiting}
 use Rattle.board.specs.declared.Node.{Node}
 use Rattle.board.specs.declared.Wanted.the-variants.{Listed, Owed}
 use Rattle.board.specs.Node.{none}
-use Rattle.board.specs.Table.{at, put, listedAt}
+use Rattle.board.specs.Table.{at, put}
 use Rattle.board.specs.Wanted.{countOf, someListed}
 use Rattle.board.specs.Change.{missed, oweAll}
 use Rattle.board.proofs.Counts.{count-put, count-owe-all, owed-listed, counted-listed}
@@ -26,9 +25,9 @@ use Rattle.coordinator.specs.Fit.{fits}
 use Rattle.coordinator.specs.Change.{withPhase, holding}
 use Rattle.coordinator.proofs.Phases.{resting, phase-back}
 use Rattle.coordinator.proofs.Fitting.{Board, fits-forty, awaited}
-use Rattle.steps.specs.After.{After, refused, accepted, rests}
+use Rattle.steps.specs.After.{accepted, rests}
 use Rattle.steps.specs.Quiet.{droppedAt, missedAt, quietValue, quietRules, quietIn, quietOf}
-use Rattle.turns.specs.Potential.{ahead, unheld, underWay, potential}
+use Rattle.turns.specs.Potential.{unheld, underWay, potential}
 use Rattle.turns.proofs.Numbers.{ahead-drop}
 use Rattle.turns.proofs.Moves.{Moves, works, refusing, guarded, plain-rests, listed-most, put-keeps, ended}
 

@@ -1,14 +1,12 @@
 -- "A board that stays listed is among any k offers made one after another" (00, demand 3).
 use Prim.Native.Nat.{ℕ, _≤_, _<_}
 use native.Mathlib.Omega.{arith}
-use mathlib.Core.Path.{_≡_, refl, sym, ap, _∙_}
-use mathlib.Core.Bool.{Bool, true, false, false≢true}
+use mathlib.Core.Path.{_≡_, sym, ap, _∙_}
+use mathlib.Core.Bool.{true, false, false≢true}
 use mathlib.Core.List.{List, [], _∷_}
-use lib.Dec.{eqb}
 use lib.ListN.{length}
 use borrow.Author.Tests.{eq-eqb}
 use Rattle.ground.specs.Below.{among}
-use Rattle.board.specs.Table.{listedAt}
 use Rattle.board.specs.Round.{distance}
 use Rattle.board.proofs.NextListed.{distance-least, distance-most}
 use Rattle.coordinator.proofs.Fitting.{Board}

@@ -1,11 +1,10 @@
 -- What one step means for a board that stays listed: nothing, work, an offer to it, or an offer that comes nearer to it.
-use Prim.Native.Nat.{ℕ, _≤_, _<_}
+use Prim.Native.Nat.{ℕ, _<_}
 use native.Mathlib.Omega.{arith}
 use native.Mathlib.Decide.{ℕ-discrete}
 use mathlib.Core.Path.{_≡_, refl, sym, ap, subst, _∙_}
 use mathlib.Core.Bool.{true, false}
 use mathlib.Core.List.{List}
-use Rattle.board.specs.declared.Node.{Node}
 use Rattle.board.specs.Table.{listedAt}
 use Rattle.board.specs.Round.{nextListed, distance}
 use Rattle.board.proofs.NextListed.{next-nearest, next-closer}

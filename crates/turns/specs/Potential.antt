@@ -62,6 +62,7 @@ underWay k (ForwardDue board requester) owed = listSteps * k + forwardDue
 underWay k (ReturnDue board) owed = listSteps * k + returnDue
 underWay k Unknown owed = 0
 
+-- the potential of a coordinator and its table: what may come, and what is under way
 unfoldable pub potential : Coordinator → List Node → ℕ
 potential c t = ahead (c .setup .k) (countOf Listed t) (unheld (c .held)) + underWay (c .setup .k) (phaseOf (c .stand)) (countOf Owed t)
 
