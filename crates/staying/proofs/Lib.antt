@@ -1,0 +1,7 @@
+pub mod Rules
+pub mod Agreement
+pub mod AfterJoin
+pub mod AfterTurn
+pub mod AfterFrame
+pub mod AfterQuiet
+pub mod WhoStays
