@@ -64,3 +64,23 @@ module _ {ℓ} {A : Type ℓ} (f : Refusal → A) (v : A) (apart : (r q : Refusa
 
   pub refused-exactly : (rules : List (Bool × Refusal)) (q : Refusal) → (ruled rules f v ≡ f q) ↔ FirstIs rules q
   refused-exactly rules q = (only-first rules q, when-first rules q)
+
+-- what holds of each refusal that a rule says, where it holds and those before it do not
+abbrev pub Each {ℓ} : (Refusal → Type ℓ) → List (Bool × Refusal) → Type ℓ
+Each Q [] = Unit
+Each Q (rule ∷ rules) = (rule .0 ≡ true → Q (rule .1)) × (rule .0 ≡ false → Each Q rules)
+
+-- what holds of every refusal
+pub each {ℓ} : {Q : Refusal → Type ℓ} → ((r : Refusal) → Q r) → (rules : List (Bool × Refusal)) → Each Q rules
+each q [] = tt
+each q (rule ∷ rules) = ((λ h. q (rule .1)), (λ h. each q rules))
+
+-- what holds of each of them, and of the value where no rule holds, holds of whatever the rules give
+pub by-rules {ℓ κ} : {A : Type ℓ} (P : A → Type κ) (rules : List (Bool × Refusal)) (f : Refusal → A) (v : A) → Each (λ r. P (f r)) rules → (Passed rules → P v) → P (ruled rules f v)
+unfolding choose
+by-rules P [] f v e h = h tt
+by-rules P (rule ∷ rules) f v e h = go (by-rules P rules f v) (rule .0) refl
+  where
+    go : (Each (λ r. P (f r)) rules → (Passed rules → P v) → P (ruled rules f v)) → (b : Bool) → rule .0 ≡ b → P (choose b (f (rule .1)) (ruled rules f v))
+    go rest true q = e .0 q
+    go rest false q = rest (e .1 q) (λ passed. h (q, passed))

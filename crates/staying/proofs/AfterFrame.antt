@@ -1,10 +1,9 @@
 -- Frame: the board that is waited for is heard, so its run begins anew.
-use Prim.Native.Nat.{ℕ, _≤_}
+use Prim.Native.Nat.{ℕ}
 use native.Mathlib.Omega.{arith}
 use mathlib.Core.Path.{_≡_, refl, ap, subst, _∙_}
 use mathlib.Core.Bool.{Bool, true, false}
-use mathlib.Core.List.{List, []}
-use lib.ListN.{length}
+use mathlib.Core.List.{List}
 use lib.Dec.{eqb, ltb}
 use Rattle.ground.specs.Choose.{choose}
 use Rattle.refusal.specs.Refusal.{Told as Answered}
@@ -14,6 +13,7 @@ use Rattle.frame.specs.Frame.{headerOf}
 use Rattle.board.specs.declared.Node.{Node}
 use Rattle.board.specs.Table.{at, put}
 use Rattle.board.specs.Change.{heard, renewed, oweAll}
+use Rattle.routing.specs.Route.{routeOf}
 use Rattle.message.specs.Message.{signedFrame, ackCode}
 use Rattle.accept.specs.declared.Heard.{Heard}
 use Rattle.accept.specs.declared.Heard.the-variants.{Ack, Echo, Deliver, Route, Answer, Refused}
@@ -26,13 +26,13 @@ use Rattle.coordinator.specs.Phase.{phaseOf}
 use Rattle.coordinator.specs.Fit.{fits}
 use Rattle.coordinator.specs.Change.{withPhase, keeping}
 use Rattle.coordinator.proofs.Phases.{resting, forwarding, forward-due, return-due, phase-back}
-use Rattle.coordinator.proofs.Fitting.{Board, awaited, fits-forty}
+use Rattle.coordinator.proofs.Fitting.{Board, awaited}
 use Rattle.steps.specs.declared.Event.the-variants.{Frame}
 use Rattle.steps.specs.After.{After, refused, accepted, delivers, transmits}
 use Rattle.steps.specs.Receive.{payload, heardIn, hear, hearAck, keptOf, acking, routed, acked, takenAs, takenIn, receiveRules, receiveIn, receiveOf}
 use Rattle.series.specs.Series.{waitedFor}
 use Rattle.series.specs.Observed.{Seen, changed}
-use Rattle.staying.proofs.Agreement.{Waits, Agrees, Told, changed-none, Changes, put-changes, owe-changes, listed-tells, seen-tells, refused-tells, rules-tell}
+use Rattle.staying.proofs.Agreement.{Waits, Agrees, Told, changed-none, Changes, put-changes, inside, owe-changes, listed-tells, seen-tells, refused-tells, rules-tell}
 
 -- where a request goes on, nothing is waited for
 routed-waits : (c : Coordinator) (h : Header) (p : List ℕ) (b to awaited : ℕ) → Waits awaited true (phaseOf (routed c h p b to .stand))
@@ -45,15 +45,12 @@ routed-waits c h p b to awaited = go (ltb 0 to)
 
 module _ (s : Seen) (c : Coordinator) (t : List Node) (h : fits c t ≡ true) (g : Agrees s c t) where
   module _ (b : ℕ) (board : Board c t b) (for : s .awaited ≡ b) where
-    inside : b ≤ length t
-    inside = omega (arith, board .upTo, board .few, fits-forty c t h)
-
     -- an accepted frame of the board: its misses are 0, and the wait that is seen is the phase's
     heard-tells : {a : After} → a .says .number ≡ 0 → Changes t (a .nodes) b true 0 → Waits (waitedFor (a .says)) true (phaseOf (a .coordinator .stand)) → Told s t Frame a
     heard-tells e change wait = seen-tells Frame e (listed-tells 0 g change refl (λ two three. omega arith) (changed-none (s .listed) b true (g .listed b ∙ board .listed)) (λ p. ap (λ (q : ℕ). changed (s .run) q 0 p) for) wait)
 
     hear-changes : Changes t (hear t b) b true 0
-    hear-changes = put-changes t b (heard (at t b)) (board .from) inside (board .listed) refl
+    hear-changes = put-changes t b (heard (at t b)) (board .from) (inside c t h board) (board .listed) refl
 
     ack-changes : (session : ℕ) → Changes t (hearAck t b session) b true 0
     unfolding choose
@@ -61,7 +58,7 @@ module _ (s : Seen) (c : Coordinator) (t : List Node) (h : fits c t ≡ true) (g
       where
         go : (same : Bool) → Changes t (choose same (hear t b) (oweAll (put t b (renewed (heard (at t b)) session)))) b true 0
         go true = hear-changes
-        go false = owe-changes (put-changes t b (renewed (heard (at t b)) session) (board .from) inside (board .listed) refl)
+        go false = owe-changes (put-changes t b (renewed (heard (at t b)) session) (board .from) (inside c t h board) (board .listed) refl)
 
     -- an ACK ends its wait, except after a forward
     acked-tells : (exchange : Exchange) (q : ℕ) (u : List Node) → Changes t u b true 0 → Told s t Frame (acked exchange b q c u)
@@ -84,7 +81,10 @@ module _ (s : Seen) (c : Coordinator) (t : List Node) (h : fits c t ≡ true) (g
     taken-tells Ack exchange q f p room = acked-tells exchange q _ (ack-changes _)
     taken-tells Echo exchange q f p room = acking-tells room transmits _ refl (rw (phase-back resting) tt)
     taken-tells Deliver exchange q f p room = acking-tells room delivers _ refl (rw (phase-back resting) tt)
-    taken-tells Route exchange q f p room = acking-tells room transmits _ refl (routed-waits c f p b _ _)
+    taken-tells Route exchange q f p room = acking-tells room transmits (routed c f p b to) refl (routed-waits c f p b to (waitedFor transmits))
+      where
+        to : ℕ
+        to = routeOf t (c .setup .k) b (f .method) (f .parameter1)
     taken-tells Answer exchange q f p room = acking-tells room transmits _ refl (rw (phase-back (return-due q)) tt)
     taken-tells (Refused r) exchange q f p room = refused-tells s c t Frame g r
 

@@ -5,7 +5,6 @@ use native.Mathlib.Decide.{ℕ-discrete}
 use mathlib.Core.Path.{_≡_, refl, sym, ap, subst, _∙_}
 use mathlib.Core.Bool.{Bool, true, false, false≢true}
 use mathlib.Core.List.{List, []}
-use lib.ListN.{length}
 use lib.Dec.{eqb, ltb}
 use borrow.Author.Tests.{ltb-true, ltb-false, ne-eqb}
 use Rattle.ground.specs.Choose.{choose}
@@ -23,12 +22,12 @@ use Rattle.coordinator.specs.Phase.{phaseOf}
 use Rattle.coordinator.specs.Fit.{fits}
 use Rattle.coordinator.specs.Change.{withPhase, holding}
 use Rattle.coordinator.proofs.Phases.{resting, phase-back}
-use Rattle.coordinator.proofs.Fitting.{Board, listed-told, awaited, fits-forty, fit-told}
+use Rattle.coordinator.proofs.Fitting.{Board, listed-told, awaited, fit-told}
 use Rattle.steps.specs.declared.Event.the-variants.{Quiet}
 use Rattle.steps.specs.After.{After, accepted, rests}
-use Rattle.steps.specs.Quiet.{stillHeld, droppedAt, missedAt, quietValue, quietRules, quietIn, quietOf}
+use Rattle.steps.specs.Quiet.{droppedAt, missedAt, quietValue, quietRules, quietIn, quietOf}
 use Rattle.series.specs.Observed.{Seen, changed, sawQuiet}
-use Rattle.staying.proofs.Agreement.{Waits, Agrees, Gone, Thrice, Tells, Told, nobody-leaves, changed-here, changed-other, changed-none, Changes, put-changes, owe-changes, agrees-changed, listed-tells, seen-tells, refused-tells, rules-tell}
+use Rattle.staying.proofs.Agreement.{Waits, Agrees, Gone, Thrice, Told, nobody-leaves, changed-here, changed-other, changed-none, Changes, put-changes, inside, owe-changes, agrees-changed, listed-tells, seen-tells, refused-tells, rules-tell}
 
 -- what quiet shows: the run is one more where the board was not heard, and a board that is dropped is listed no more
 module _ (s : Seen) (a : After) (p : ℕ) where
@@ -57,17 +56,14 @@ module _ (s : Seen) (c : Coordinator) (t : List Node) (h : fits c t ≡ true) (g
       same p = heard-run s (accepted (withPhase c Resting) t rests []) p heard
 
   module _ (b : ℕ) (board : Board c t b) (for : s .awaited ≡ b) (unheard : s .heard ≡ false) where
-    inside : b ≤ length t
-    inside = omega (arith, board .upTo, board .few, fits-forty c t h)
-
-    -- the same for a miss and for a drop
+    -- the run is one more, by a miss as by a drop
     run-more : (p : ℕ) → sawQuiet (droppedAt c t b) s .run p ≡ changed (s .run) b (s .run b + 1) p
     run-more p = unheard-run s (droppedAt c t b) p unheard ∙ ap (λ (q : ℕ). changed (s .run) q (s .run q + 1) p) for
 
     -- the first miss and the second
     missed-tells : ltb (at t b .misses) 2 ≡ true → Told s t Quiet (accepted (withPhase c Resting) (put t b (missed (at t b))) rests [])
     unfolding choose
-    missed-tells few = seen-tells Quiet refl (listed-tells (s .run b + 1) g (put-changes t b (missed (at t b)) (board .from) inside (board .listed) refl) (omega (arith, one)) (λ two three. omega (arith, one)) (changed-none (s .listed) b true (g .listed b ∙ board .listed)) run-more (rw (phase-back resting) tt))
+    missed-tells few = seen-tells Quiet refl (listed-tells (s .run b + 1) g (put-changes t b (missed (at t b)) (board .from) (inside c t h board) (board .listed) refl) (omega (arith, one)) (λ two three. omega (arith, one)) (changed-none (s .listed) b true (g .listed b ∙ board .listed)) run-more (rw (phase-back resting) tt))
       where
         one : (s .run b ≡ at t b .misses) × (at t b .misses < 2)
         one = (g .run b (board .listed), ltb-true (at t b .misses) 2 few)
@@ -77,7 +73,7 @@ module _ (s : Seen) (c : Coordinator) (t : List Node) (h : fits c t ≡ true) (g
     dropped-tells third = seen-tells Quiet refl (record { agrees = agrees-changed (s .run b + 1) g change (λ e. absurd (false≢true e)) (λ p. dropped-listed s (droppedAt c t b) p (board .from)) run-more (at-rest c (someListed (put t b none))); only = λ p. only p (ℕ-discrete p b); then = λ p. then p (ℕ-discrete p b) })
       where
         change : Changes t (oweAll (put t b none)) b false 0
-        change = owe-changes (put-changes t b none (board .from) inside refl refl)
+        change = owe-changes (put-changes t b none (board .from) (inside c t h board) refl refl)
 
         two : s .run b ≡ 2
         two = omega (arith, g .run b (board .listed), ltb-false (at t b .misses) 2 third, fit-told c t h .table .ranges b (listed-told t b (board .listed)) .misses)

@@ -1,15 +1,12 @@
 -- Turn: a message to the board that is now waited for; nobody's run changes.
-use Prim.Native.Nat.{ℕ, _≤_}
+use Prim.Native.Nat.{ℕ}
 use native.Mathlib.Omega.{arith}
 use mathlib.Core.Path.{_≡_, refl, sym, _∙_}
 use mathlib.Core.Bool.{Bool, true, false}
 use mathlib.Core.List.{List}
-use lib.ListN.{length}
 use lib.Dec.{ltb}
-use borrow.Author.Tests.{ltb-true}
 use Rattle.ground.specs.Choose.{choose}
 use Rattle.board.specs.declared.Node.{Node}
-use Rattle.board.specs.declared.Wanted.the-variants.{Owed}
 use Rattle.board.specs.Table.{at, put, listedAt}
 use Rattle.board.specs.Round.{nextListed}
 use Rattle.board.specs.Change.{told}
@@ -19,11 +16,12 @@ use Rattle.coordinator.specs.declared.Coordinator.{Coordinator}
 use Rattle.coordinator.specs.Phase.{phaseOf}
 use Rattle.coordinator.specs.Fit.{fits}
 use Rattle.coordinator.proofs.Phases.{offering, listing, forwarding, returning, phase-back}
-use Rattle.coordinator.proofs.Fitting.{fits-forty}
+use Rattle.coordinator.proofs.Fitting.{Board, board-listed}
 use Rattle.steps.specs.declared.Event.the-variants.{Turn}
 use Rattle.steps.specs.Turn.{Due, owedTo, dueList, dueOffer, dueOwn, dueIn, turnRules, sent, turnIn, turnOf}
 use Rattle.series.specs.Observed.{Seen}
-use Rattle.staying.proofs.Agreement.{Waits, Agrees, Told, nobody-leaves, lowest-few, changed-none, Changes, put-changes, seen-tells, rules-tell}
+use Rattle.lasting.proofs.Turn.{owed-listed}
+use Rattle.staying.proofs.Agreement.{Waits, Agrees, Told, nobody-leaves, changed-none, Changes, put-changes, inside, seen-tells, rules-tell}
 
 module _ (s : Seen) (c : Coordinator) (t : List Node) (h : fits c t ≡ true) (g : Agrees s c t) where
   -- what is sent leaves the list and the misses as they were, and waits for its board
@@ -34,11 +32,11 @@ module _ (s : Seen) (c : Coordinator) (t : List Node) (h : fits c t ≡ true) (g
   list-tells : ltb 0 (owedTo c t) ≡ true → Told s t Turn (sent (dueList c t (owedTo c t)))
   list-tells e = sent-tells (dueList c t (owedTo c t)) (λ p. change .listed p ∙ sym (changed-none (listedAt t) (owedTo c t) _ refl p)) (λ p. change .misses p ∙ sym (changed-none (λ q. at t q .misses) (owedTo c t) _ refl p)) (rw (phase-back (listing (owedTo c t))) (refl, refl))
     where
-      inside : owedTo c t ≤ length t
-      inside = omega (arith, lowest-few t Owed (c .setup .k), fits-forty c t h)
+      board : Board c t (owedTo c t)
+      board = board-listed c t h (owedTo c t) (owed-listed c t e)
 
       change : Changes t (put t (owedTo c t) (told (at t (owedTo c t)))) (owedTo c t) (listedAt t (owedTo c t)) (at t (owedTo c t) .misses)
-      change = put-changes t (owedTo c t) (told (at t (owedTo c t))) (ltb-true 0 (owedTo c t) e) inside refl refl
+      change = put-changes t (owedTo c t) (told (at t (owedTo c t))) (board .from) (inside c t h board) refl refl
 
   own-tells : Told s t Turn (sent (dueOwn c t))
   unfolding choose

@@ -1,9 +1,8 @@
 -- What is seen of a series agrees with what the panel's records hold, and how a step keeps it so.
-use Prim.Native.Nat.{ℕ, _≤_, min}
+use Prim.Native.Nat.{ℕ, _≤_}
 use native.Mathlib.Omega.{arith}
 use native.Mathlib.Decide.{ℕ-discrete}
 use mathlib.Core.Path.{_≡_, refl, sym, ap, subst, _∙_}
-use mathlib.Core.Logic.{inl, inr}
 use mathlib.Core.Bool.{Bool, true, false, false≢true}
 use mathlib.Core.List.{List}
 use lib.ListN.{length}
@@ -11,28 +10,25 @@ use lib.Dec.{eqb}
 use borrow.Author.Tests.{eq-eqb, ne-eqb}
 use Rattle.ground.specs.Choose.{choose}
 use Rattle.ground.proofs.Choices.{choose-yes, choose-no}
-use Rattle.ground.proofs.Firsts.{FirstCase}
 use Rattle.refusal.specs.Refusal.{numberOf, ruled}
 use Rattle.refusal.specs.declared.Refusal.{Refusal}
 use Rattle.refusal.proofs.Numbers.{not-zero}
-use Rattle.refusal.proofs.Rules.{Passed}
+use Rattle.refusal.proofs.Rules.{Passed, each, by-rules}
 use Rattle.board.specs.declared.Node.{Node}
-use Rattle.board.specs.declared.Wanted.{Wanted}
 use Rattle.board.specs.Node.{isListed}
 use Rattle.board.specs.Table.{at, put, listedAt}
-use Rattle.board.specs.Wanted.{wantedAt, lowestOf}
 use Rattle.board.specs.Change.{oweAll}
-use Rattle.board.proofs.LowestWanted.{lowest-case}
 use Rattle.board.proofs.Changes.{at-put, at-put-other, owe-all-keeps, owe-all-listed}
 use Rattle.coordinator.specs.declared.Phase.{Phase}
 use Rattle.coordinator.specs.declared.Phase.the-variants.{Resting, Awaiting, ForwardDue, ReturnDue, Unknown}
 use Rattle.coordinator.specs.declared.Coordinator.{Coordinator}
 use Rattle.coordinator.specs.Phase.{phaseOf}
+use Rattle.coordinator.specs.Fit.{fits}
+use Rattle.coordinator.proofs.Fitting.{Board, fits-forty}
 use Rattle.steps.specs.declared.Event.{Event}
 use Rattle.steps.specs.After.{After, refused}
 use Rattle.series.specs.Series.{isAccepted}
 use Rattle.series.specs.Observed.{Seen, changed, sawEvent, saw}
-use Rattle.staying.proofs.Rules.{each, by-rules}
 
 -- in a wait, the board that is waited for and whether it was heard in it are those of the phase; outside of one nothing is asked
 abbrev pub Waits : ℕ → Bool → Phase → Type 0
@@ -88,14 +84,6 @@ module _ {ℓ} {A : Type ℓ} (f : ℕ → A) (b : ℕ) (v : A) (q : ℕ) where
 pub changed-none {ℓ} : {A : Type ℓ} (f : ℕ → A) (b : ℕ) (v : A) → f b ≡ v → (q : ℕ) → f q ≡ changed f b v q
 changed-none f b v e q = changed-case f b v q (λ x. f q ≡ x) (λ h. ap f h ∙ e) (λ ne. refl)
 
--- a lowest position is one of the forty
-pub lowest-few : (t : List Node) (w : Wanted) (limit : ℕ) → lowestOf t w limit ≤ 40
-lowest-few t w limit = go (lowest-case t w limit)
-  where
-    go : FirstCase 0 (wantedAt w t) 1 (min limit 40) (lowestOf t w limit) → lowestOf t w limit ≤ 40
-    go (inl (none, zeroed)) = omega arith
-    go (inr f) = omega (arith, f .within)
-
 -- two tables that differ, in who is listed and in the misses, at position b only
 pub record Changes (t u : List Node) (b : ℕ) (l : Bool) (m : ℕ) : Type 0 where
   pub listed : (p : ℕ) → listedAt u p ≡ changed (listedAt t) b l p
@@ -106,6 +94,10 @@ put-changes t b n from upTo el em = record { listed = each-is isListed el; misse
   where
     each-is : {A : Type 0} (f : Node → A) {v : A} → f n ≡ v → (p : ℕ) → f (at (put t b n) p) ≡ changed (λ q. f (at t q)) b v p
     each-is f {v} e p = changed-case (λ q. f (at t q)) b v p (λ x. f (at (put t b n) p) ≡ x) (λ here. ap f (ap (at (put t b n)) here ∙ at-put t b n from upTo) ∙ e) (λ ne. ap f (at-put-other t b p n ne))
+
+-- a listed board's position is one of the table
+pub inside : (c : Coordinator) (t : List Node) → fits c t ≡ true → {b : ℕ} → Board c t b → b ≤ length t
+inside c t h board = omega (arith, board .upTo, board .few, fits-forty c t h)
 
 -- owing the list to all is no such change
 pub owe-changes : {t u : List Node} {b : ℕ} {l : Bool} {m : ℕ} → Changes t u b l m → Changes t (oweAll u) b l m

@@ -1,4 +1,3 @@
-pub mod Rules
 pub mod Agreement
 pub mod AfterJoin
 pub mod AfterTurn
