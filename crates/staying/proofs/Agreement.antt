@@ -84,6 +84,10 @@ module _ {ℓ} {A : Type ℓ} (f : ℕ → A) (b : ℕ) (v : A) (q : ℕ) where
 pub changed-none {ℓ} : {A : Type ℓ} (f : ℕ → A) (b : ℕ) (v : A) → f b ≡ v → (q : ℕ) → f q ≡ changed f b v q
 changed-none f b v e q = changed-case f b v q (λ x. f q ≡ x) (λ h. ap f h ∙ e) (λ ne. refl)
 
+-- a listed board's position is one of the table
+pub inside : (c : Coordinator) (t : List Node) → fits c t ≡ true → {b : ℕ} → Board c t b → b ≤ length t
+inside c t h board = omega (arith, board .upTo, board .few, fits-forty c t h)
+
 -- two tables that differ, in who is listed and in the misses, at position b only
 pub record Changes (t u : List Node) (b : ℕ) (l : Bool) (m : ℕ) : Type 0 where
   pub listed : (p : ℕ) → listedAt u p ≡ changed (listedAt t) b l p
@@ -94,10 +98,6 @@ put-changes t b n from upTo el em = record { listed = each-is isListed el; misse
   where
     each-is : {A : Type 0} (f : Node → A) {v : A} → f n ≡ v → (p : ℕ) → f (at (put t b n) p) ≡ changed (λ q. f (at t q)) b v p
     each-is f {v} e p = changed-case (λ q. f (at t q)) b v p (λ x. f (at (put t b n) p) ≡ x) (λ here. ap f (ap (at (put t b n)) here ∙ at-put t b n from upTo) ∙ e) (λ ne. ap f (at-put-other t b p n ne))
-
--- a listed board's position is one of the table
-pub inside : (c : Coordinator) (t : List Node) → fits c t ≡ true → {b : ℕ} → Board c t b → b ≤ length t
-inside c t h board = omega (arith, board .upTo, board .few, fits-forty c t h)
 
 -- owing the list to all is no such change
 pub owe-changes : {t u : List Node} {b : ℕ} {l : Bool} {m : ℕ} → Changes t u b l m → Changes t (oweAll u) b l m
