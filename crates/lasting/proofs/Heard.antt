@@ -11,7 +11,7 @@ use Rattle.refusal.specs.declared.Refusal.the-variants.{UnexpectedType, BadEcho
 use Rattle.refusal.proofs.Rules.{Passed, by-rules}
 use Rattle.accept.specs.declared.Heard.{Heard}
 use Rattle.accept.specs.declared.Heard.the-variants.{Ack, Echo, Deliver, Route, Answer, Refused}
-use Rattle.accept.specs.Accept.{ackType, requestType, echoType, answerType, unexpected, heardAfterOffer, heardAfterList, heardAfterForward, heardAfterReturn}
+use Rattle.accept.specs.Accept.{ackType, requestType, offerTypes, listTypes, forwardTypes, unexpected, heardAfterOffer, heardAfterList, heardAfterForward, heardAfterReturn}
 
 -- where no ACK came and none is unexpected, the other type that is listed came
 listed-type : (b : Bool) → (not b || false) ≡ false → b ≡ true
@@ -23,9 +23,9 @@ module _ {ℓ} (P : Heard → Type ℓ) (unexpected-type : P (Refused Unexpected
   pub offer-heard : (m d : ℕ) (a : Bool) → P (Refused BadMethod) → P Ack → P Deliver → (requestType m ≡ true → 1 ≤ d → d ≤ 3 → P Route) → P (heardAfterOffer m d a)
   unfolding heardAfterOffer choose
   offer-heard m d a method ack deliver route =
-      by-rules P ((unexpected (ackType m || requestType m) m a, UnexpectedType) ∷ (requestType m && ltb 3 d, BadMethod) ∷ []) Refused (choose (ackType m) Ack (choose (eqb d 0) Deliver Route)) ((λ _. unexpected-type), λ _. ((λ _. method), λ _. tt)) (λ passed. value (ackType m) refl (eqb d 0) refl passed)
+      by-rules P ((unexpected (offerTypes m) m a, UnexpectedType) ∷ (requestType m && ltb 3 d, BadMethod) ∷ []) Refused (choose (ackType m) Ack (choose (eqb d 0) Deliver Route)) ((λ _. unexpected-type), λ _. ((λ _. method), λ _. tt)) (λ passed. value (ackType m) refl (eqb d 0) refl passed)
     where
-      value : (x : Bool) → ackType m ≡ x → (y : Bool) → eqb d 0 ≡ y → Passed ((unexpected (ackType m || requestType m) m a, UnexpectedType) ∷ (requestType m && ltb 3 d, BadMethod) ∷ []) → P (choose x Ack (choose y Deliver Route))
+      value : (x : Bool) → ackType m ≡ x → (y : Bool) → eqb d 0 ≡ y → Passed ((unexpected (offerTypes m) m a, UnexpectedType) ∷ (requestType m && ltb 3 d, BadMethod) ∷ []) → P (choose x Ack (choose y Deliver Route))
       value true e y f passed = ack
       value false e true f passed = deliver
       value false e false f passed = route request (omega (arith, eqb-false d 0 f)) (ltb-false 3 d (small (requestType m) (ltb 3 d) request (passed .1 .0)))
@@ -40,17 +40,17 @@ module _ {ℓ} (P : Heard → Type ℓ) (unexpected-type : P (Refused Unexpected
   -- after a list: its echo, or 7 or 8
   pub list-heard : (m : ℕ) (same : Bool) → P (Refused BadEcho) → P Echo → P (heardAfterList m same)
   unfolding heardAfterList
-  list-heard m same bad echo = by-rules P ((not (echoType m), UnexpectedType) ∷ (not same, BadEcho) ∷ []) Refused Echo ((λ _. unexpected-type), λ _. ((λ _. bad), λ _. tt)) (λ passed. echo)
+  list-heard m same bad echo = by-rules P ((not (listTypes m), UnexpectedType) ∷ (not same, BadEcho) ∷ []) Refused Echo ((λ _. unexpected-type), λ _. ((λ _. bad), λ _. tt)) (λ passed. echo)
 
   -- after a forward: an ACK, the response, or 7
   pub forward-heard : (m q : ℕ) (a d : Bool) → P Ack → (m ≡ q + 128 → P Answer) → P (heardAfterForward m q a d)
   unfolding heardAfterForward choose
   forward-heard m q a d ack answer =
-      by-rules P ((unexpected ((ackType m && not d) || answerType q m) m a, UnexpectedType) ∷ []) Refused (choose (ackType m) Ack Answer) ((λ _. unexpected-type), λ _. tt) (λ passed. value (ackType m) refl passed)
+      by-rules P ((unexpected (forwardTypes q d m) m a, UnexpectedType) ∷ []) Refused (choose (ackType m) Ack Answer) ((λ _. unexpected-type), λ _. tt) (λ passed. value (ackType m) refl passed)
     where
-      value : (x : Bool) → ackType m ≡ x → Passed ((unexpected ((ackType m && not d) || answerType q m) m a, UnexpectedType) ∷ []) → P (choose x Ack Answer)
+      value : (x : Bool) → ackType m ≡ x → Passed ((unexpected (forwardTypes q d m) m a, UnexpectedType) ∷ []) → P (choose x Ack Answer)
       value true e passed = ack
-      value false e passed = answer (eqb-true m (q + 128) (listed-type (answerType q m) (rw e at (passed .0))))
+      value false e passed = answer (eqb-true m (q + 128) (listed-type (eqb m (q + 128)) (rw e at (passed .0))))
 
   -- after a return: an ACK, or 7
   pub return-heard : (m : ℕ) (a : Bool) → P Ack → P (heardAfterReturn m a)
