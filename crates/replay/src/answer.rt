@@ -1,5 +1,4 @@
-// What is written for a line of the script: words and numbers gathered into one line of text, written at once.
-use crate::parse;
+// What is written for a line of the script.
 use board::Node;
 use board::Table;
 use coordinator::Coordinator;
@@ -9,34 +8,21 @@ use refusal::Refusal;
 use setup::Setup;
 use steps::Answer;
 use steps::Outcome;
+ghost use Rattle.io.specs.Counts.{Counts};
 
-// Room for any answer: a wait with 1,024 bytes takes less than 2,100.
-fn blank_line() -> [u8; 2100] {
-    [0u8; 2100]
+fn write(text: &[u8]) {
+    io::write_all(STDOUT_FILENO, text);
 }
 
-// Puts text into a line from `at` on, as far as there is room, and gives the place past it.
-fn put(line: &mut [u8], at: usize, text: &[u8]) -> usize {
-    let from = ground::least(at, line.len());
-    let n = ground::least(text.len(), line.len() - from);
-    let mut i: usize = 0;
-    while i < n {
-        line[from + i] = text[i];
-        i += 1;
-    }
-    from + n
+fn write_decimal(n: u64) {
+    io::print_decimal(STDOUT_FILENO, n);
 }
 
-fn put_decimal(line: &mut [u8], at: usize, n: u64) -> usize {
-    let mut digits = [0u8; 20];
-    let count = io::decimal(n, &mut digits);
-    put(line, at, &digits[..count])
-}
-
-// A space and a number.
-fn put_number(line: &mut [u8], at: usize, n: u64) -> usize {
-    let p = put(line, at, b" ");
-    put_decimal(line, p, n)
+// A line of words and a number.
+pub(crate) fn write_number(words: &[u8], n: u64) {
+    write(words);
+    write_decimal(n);
+    write(b"\n");
 }
 
 // The hex digit of a number below 16.
@@ -48,58 +34,41 @@ fn glyph(n: u8) -> u8 {
     }
 }
 
-fn put_hex(line: &mut [u8], at: usize, bytes: &[u8]) -> usize {
-    let mut p = at;
+// Spells bytes in hex, two digits a byte, as many as there is room for, and counts the digits.
+fn spell(bytes: &[u8], text: &mut [u8]) -> usize
+    ensures { λ r. ⌜ Counts r (now (text .exit)) ⌝ }
+{
+    let n = ground::least(bytes.len(), text.len() / 2);
     let mut i: usize = 0;
-    while i < bytes.len() {
-        let pair = [glyph(bytes[i] / 16), glyph(bytes[i] % 16)];
-        p = put(line, p, &pair);
+    while i < n {
+        text[2 * i] = glyph(bytes[i] / 16);
+        text[2 * i + 1] = glyph(bytes[i] % 16);
         i += 1;
     }
-    p
+    2 * n
 }
 
-// A space and the count of the bytes; then, where there are any, a space and two hex digits a byte.
-fn put_bytes(line: &mut [u8], at: usize, bytes: &[u8]) -> usize {
-    let p = put_number(line, at, bytes.len() as u64);
-    if bytes.len() == 0 {
-        return p;
+// A space and the bytes, where there are any.
+fn write_hex(bytes: &[u8]) {
+    if 0 < bytes.len() {
+        let mut text = [0u8; 2048];
+        let n = spell(bytes, &mut text);
+        write(b" ");
+        write(&text[..n]);
     }
-    let q = put(line, p, b" ");
-    put_hex(line, q, bytes)
 }
 
-// Writes the line up to a place, and ends it.
-fn write_line(line: &mut [u8], at: usize) {
-    let end = put(line, at, b"\n");
-    let n = parse::within(end, line);
-    io::write_all(STDOUT_FILENO, &line[..n]);
-}
-
-// A word and a number.
-fn write_number(word: &[u8], n: u64) {
-    let mut line = blank_line();
-    let p = put(&mut line, 0, word);
-    let q = put_number(&mut line, p, n);
-    write_line(&mut line, q);
-}
-
-// A word, a count and bytes.
-fn write_bytes(word: &[u8], bytes: &[u8]) {
-    let mut line = blank_line();
-    let p = put(&mut line, 0, word);
-    let q = put_bytes(&mut line, p, bytes);
-    write_line(&mut line, q);
-}
-
-// bad line L
-pub(crate) fn bad_line(number: u64) {
-    write_number(b"bad line", number);
+// A line of words, the count of the bytes and the bytes.
+fn write_bytes(words: &[u8], bytes: &[u8]) {
+    write(words);
+    write_decimal(bytes.len() as u64);
+    write_hex(bytes);
+    write(b"\n");
 }
 
 // refuse N
 fn refused(refusal: Refusal) {
-    write_number(b"refuse", refusal::number(refusal) as u64);
+    write_number(b"refuse ", refusal::number(refusal) as u64);
 }
 
 // ready K
@@ -108,40 +77,31 @@ pub(crate) fn started(outcome: Outcome, k: usize) {
     if let Answer::Refuse(refusal) = answer {
         refused(refusal);
     } else {
-        write_number(b"ready", k as u64);
-    }
-}
-
-fn put_exchange(line: &mut [u8], at: usize, exchange: Exchange) -> usize {
-    match exchange {
-        Exchange::Offer => put(line, at, b" offer"),
-        Exchange::List => put(line, at, b" list"),
-        Exchange::Forward => put(line, at, b" forward"),
-        Exchange::Return => put(line, at, b" return"),
+        write_number(b"ready ", k as u64);
     }
 }
 
 // wait P offer|list|forward|return COUNT HEX
 fn waiting(board: usize, exchange: Exchange, bytes: &[u8]) {
-    let mut line = blank_line();
-    let p = put(&mut line, 0, b"wait");
-    let q = put_number(&mut line, p, board as u64);
-    let r = put_exchange(&mut line, q, exchange);
-    let s = put_bytes(&mut line, r, bytes);
-    write_line(&mut line, s);
+    write(b"wait ");
+    write_decimal(board as u64);
+    match exchange {
+        Exchange::Offer => write_bytes(b" offer ", bytes),
+        Exchange::List => write_bytes(b" list ", bytes),
+        Exchange::Forward => write_bytes(b" forward ", bytes),
+        Exchange::Return => write_bytes(b" return ", bytes),
+    }
 }
 
 // rest, rest joined P, rest dropped P
 fn resting(joined: usize, dropped: usize) {
     if 0 < joined {
-        write_number(b"rest joined", joined as u64);
-        return;
+        write_number(b"rest joined ", joined as u64);
+    } else if 0 < dropped {
+        write_number(b"rest dropped ", dropped as u64);
+    } else {
+        write(b"rest\n");
     }
-    if 0 < dropped {
-        write_number(b"rest dropped", dropped as u64);
-        return;
-    }
-    io::write_all(STDOUT_FILENO, b"rest\n");
 }
 
 // The answer of a step, with the bytes that it wrote.
@@ -149,27 +109,29 @@ pub(crate) fn stepped(outcome: Outcome, bytes: &[u8]) {
     let answer = outcome.answer;
     match answer {
         Answer::Wait(board, exchange) => waiting(board, exchange, bytes),
-        Answer::Deliver => write_bytes(b"deliver", bytes),
-        Answer::Transmit => write_bytes(b"transmit", bytes),
+        Answer::Deliver => write_bytes(b"deliver ", bytes),
+        Answer::Transmit => write_bytes(b"transmit ", bytes),
         Answer::Rest => resting(outcome.joined, outcome.dropped),
         Answer::Refuse(refusal) => refused(refusal),
     }
 }
 
+fn write_field(n: u64) {
+    write_decimal(n);
+    write(b" ");
+}
+
 // POSITION ADDRESS TYPE MAC SESSION MISSES OWED, of a board that is listed
 fn record(position: usize, address: u8, node: Node) {
-    if node.kind == 0 {
-        return;
+    if node.kind != 0 {
+        write_field(position as u64);
+        write_field(address as u64);
+        write_field(node.kind as u64);
+        write_field(node.mac);
+        write_field(node.session);
+        write_field(node.misses as u64);
+        write_number(b"", node.owed as u64);
     }
-    let mut line = blank_line();
-    let a = put_decimal(&mut line, 0, position as u64);
-    let b = put_number(&mut line, a, address as u64);
-    let c = put_number(&mut line, b, node.kind as u64);
-    let d = put_number(&mut line, c, node.mac);
-    let e = put_number(&mut line, d, node.session);
-    let f = put_number(&mut line, e, node.misses as u64);
-    let g = put_number(&mut line, f, node.owed as u64);
-    write_line(&mut line, g);
 }
 
 fn listed_count(table: Table) -> usize {
@@ -193,6 +155,6 @@ fn records(table: Table, setup: Setup) {
 
 // listed N, then a line for each board.
 pub(crate) fn listing(coordinator: Coordinator, table: Table) {
-    write_number(b"listed", listed_count(table) as u64);
+    write_number(b"listed ", listed_count(table) as u64);
     records(table, coordinator.setup);
 }

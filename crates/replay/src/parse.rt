@@ -1,32 +1,51 @@
 // The words of a line. Words are separated by one space, so that two spaces in a row hold an empty word, which is none of ours.
+use steps::Event;
 ghost use Prim.Native.Nat.{_≤_, _<_};
 ghost use lib.ListN.{length};
 ghost use Rattle.io.specs.Counts.{Counts};
 
 // A field that takes any word of sixty-four bits.
-pub(crate) const ANY: u64 = 18446744073709551615;
+const ANY: u64 = 18446744073709551615;
 
 // A number read off a line, where the next word begins (past the line's end where there is none), and whether it is one.
-pub(crate) struct Field {
-    pub value: u64,
-    pub next: usize,
-    pub ok: bool,
+struct Field {
+    value: u64,
+    next: usize,
+    ok: bool,
 }
 
 // How many there are, and whether each is what it has to be.
-pub(crate) struct Count {
-    pub value: usize,
-    pub ok: bool,
+struct Count {
+    value: usize,
+    ok: bool,
 }
 
-// What a line asks for, by its first word.
-pub(crate) enum Command {
-    Pass,
+// The first words.
+enum Word {
     Setup,
     Join,
     Turn,
     Frame,
     Quiet,
+    Table,
+    Other,
+}
+
+// What a line asks for; the addresses and the frame stand in the bytes beside it, as many as it says.
+pub(crate) enum Order {
+    Pass,
+    Setup {
+        subnet: u8,
+        internal: u8,
+        mac: u64,
+        session: u64,
+        count: usize,
+    },
+    Step {
+        event: Event,
+        room: usize,
+        count: usize,
+    },
     Table,
     Bad,
 }
@@ -65,34 +84,30 @@ fn same(a: &[u8], b: &[u8]) -> bool {
     ok
 }
 
-pub(crate) fn asked(line: &[u8]) -> Command {
-    if line.len() == 0 {
-        return Command::Pass;
+fn later_word(word: &[u8]) -> Word {
+    if same(word, b"frame") {
+        return Word::Frame;
     }
-    if line[0] == b'#' {
-        return Command::Pass;
+    if same(word, b"quiet") {
+        return Word::Quiet;
     }
-    let n = before(line, b' ');
-    let word = &line[..n];
+    if same(word, b"table") {
+        return Word::Table;
+    }
+    Word::Other
+}
+
+fn word_of(word: &[u8]) -> Word {
     if same(word, b"setup") {
-        return Command::Setup;
+        return Word::Setup;
     }
     if same(word, b"join") {
-        return Command::Join;
+        return Word::Join;
     }
     if same(word, b"turn") {
-        return Command::Turn;
+        return Word::Turn;
     }
-    if same(word, b"frame") {
-        return Command::Frame;
-    }
-    if same(line, b"quiet") {
-        return Command::Quiet;
-    }
-    if same(line, b"table") {
-        return Command::Table;
-    }
-    Command::Bad
+    later_word(word)
 }
 
 // One digit more, where the number still fits.
@@ -132,7 +147,7 @@ fn number(word: &[u8]) -> Field {
 }
 
 // The number at the word that begins here, and whether it is at most this one.
-pub(crate) fn field_at(line: &[u8], at: usize, most: u64) -> Field
+fn field_at(line: &[u8], at: usize, most: u64) -> Field
     ensures { λ r. ⌜ (at ≤ length (now (line .entry)) → at < r .next) ⌝ }
 {
     if line.len() < at {
@@ -154,7 +169,7 @@ pub(crate) fn field_at(line: &[u8], at: usize, most: u64) -> Field
 }
 
 // A byte, of a field that was asked to be one.
-pub(crate) fn byte(value: u64) -> u8 {
+fn byte(value: u64) -> u8 {
     (value % 256) as u8
 }
 
@@ -166,7 +181,7 @@ fn lay(out: &mut [u8], at: usize, b: u8) {
 }
 
 // The addresses from here on to the end of the line, as many as there is room for; further ones are only looked at and counted.
-pub(crate) fn addresses(line: &[u8], at: usize, out: &mut [u8]) -> Count {
+fn addresses(line: &[u8], at: usize, out: &mut [u8]) -> Count {
     let mut n: usize = 0;
     let mut ok = true;
     let mut from = at;
@@ -193,7 +208,7 @@ fn digit(b: u8) -> u8
 }
 
 // The bytes that pairs of hex digits stand for: one at least, and no more than there is room for.
-pub(crate) fn hex(word: &[u8], out: &mut [u8]) -> Count {
+fn hex(word: &[u8], out: &mut [u8]) -> Count {
     let pairs = word.len() / 2;
     let n = ground::least(pairs, out.len());
     let mut ok = (word.len() % 2 == 0) & (0 < pairs) & (n == pairs);
@@ -206,4 +221,120 @@ pub(crate) fn hex(word: &[u8], out: &mut [u8]) -> Count {
         i += 1;
     }
     Count { value: n, ok: ok }
+}
+
+// setup SUBNET INTERNAL MAC SESSION ADDRESS...
+fn read_setup(line: &[u8], bytes: &mut [u8]) -> Order {
+    let subnet = field_at(line, 6, 255);
+    let internal = field_at(line, subnet.next, 255);
+    let mac = field_at(line, internal.next, ANY);
+    let session = field_at(line, mac.next, ANY);
+    let n = addresses(line, session.next, bytes);
+    if subnet.ok & internal.ok & mac.ok & session.ok & n.ok {
+        Order::Setup {
+            subnet: byte(subnet.value),
+            internal: byte(internal.value),
+            mac: mac.value,
+            session: session.value,
+            count: n.value,
+        }
+    } else {
+        Order::Bad
+    }
+}
+
+// join TYPE MAC SESSION
+fn read_join(line: &[u8]) -> Order {
+    let kind = field_at(line, 5, 255);
+    let mac = field_at(line, kind.next, ANY);
+    let session = field_at(line, mac.next, ANY);
+    if kind.ok & mac.ok & session.ok & (line.len() < session.next) {
+        let event = Event::Join {
+            kind: byte(kind.value),
+            mac: mac.value,
+            session: session.value,
+        };
+        Order::Step {
+            event: event,
+            room: 0,
+            count: 0,
+        }
+    } else {
+        Order::Bad
+    }
+}
+
+// turn ROOM
+fn read_turn(line: &[u8]) -> Order {
+    let room = field_at(line, 5, 1024);
+    if room.ok & (line.len() < room.next) {
+        Order::Step {
+            event: Event::Turn,
+            room: room.value as usize,
+            count: 0,
+        }
+    } else {
+        Order::Bad
+    }
+}
+
+// The bytes of a frame from here on; none past the end of the line, which is the empty frame.
+fn frame_from(line: &[u8], at: usize, bytes: &mut [u8]) -> Count {
+    if at <= line.len() {
+        hex(&line[at..], bytes)
+    } else {
+        Count { value: 0, ok: true }
+    }
+}
+
+// frame ROOM HEX
+fn read_frame(line: &[u8], bytes: &mut [u8]) -> Order {
+    let room = field_at(line, 6, 1024);
+    let n = frame_from(line, room.next, bytes);
+    if room.ok & n.ok {
+        Order::Step {
+            event: Event::Frame,
+            room: room.value as usize,
+            count: n.value,
+        }
+    } else {
+        Order::Bad
+    }
+}
+
+// A line that is one word.
+fn alone(line: &[u8], order: Order) -> Order {
+    if line.len() == 5 { order } else { Order::Bad }
+}
+
+fn read_words(line: &[u8], bytes: &mut [u8]) -> Order {
+    let n = before(line, b' ');
+    let word = word_of(&line[..n]);
+    match word {
+        Word::Setup => read_setup(line, bytes),
+        Word::Join => read_join(line),
+        Word::Turn => read_turn(line),
+        Word::Frame => read_frame(line, bytes),
+        Word::Quiet => alone(
+            line,
+            Order::Step {
+                event: Event::Quiet,
+                room: 0,
+                count: 0,
+            },
+        ),
+        Word::Table => alone(line, Order::Table),
+        Word::Other => Order::Bad,
+    }
+}
+
+// What a line asks for. An empty line and one that begins with # ask for nothing.
+pub(crate) fn read_line(line: &[u8], bytes: &mut [u8]) -> Order {
+    if line.len() == 0 {
+        return Order::Pass;
+    }
+    if line[0] == b'#' {
+        return Order::Pass;
+    }
+    read_words(line, bytes)
 }
