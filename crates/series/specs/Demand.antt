@@ -21,7 +21,7 @@ Leaves P w is i p = (listedAt (after P w is .nodes) p ≡ true) × (listedAt (P 
 
 -- step i of the series brings the run of unanswered messages to position p from two to three
 abbrev pub Third : Panel → World → List Input → Input → ℕ → Type 0
-Third P w is i p = (seen P w nothing is .run p ≡ 2) × (saw (i .event) (P .step (after P w is) i) (seen P w nothing is) .run p ≡ 3)
+Third P w is i p = (seen P w nothing is .run p ≡ 2) × (saw i (P .step (after P w is) i) (seen P w nothing is) .run p ≡ 3)
 
 -- "A board leaves the list exactly when three messages to it in a row went unanswered since it last joined or was last heard."
 -- At any step of any series: position p leaves the list exactly when that step brings its run of unanswered messages to three.

@@ -5,6 +5,8 @@ use mathlib.Core.List.{List, [], _∷_}
 use lib.Dec.{eqb}
 use Rattle.ground.specs.Choose.{choose}
 use Rattle.refusal.specs.Refusal.{Told}
+use Rattle.frame.specs.Frame.{headerOf}
+use Rattle.setup.specs.Setup.{address}
 use Rattle.steps.specs.declared.Event.{Event}
 use Rattle.steps.specs.declared.Event.the-variants.{Join, Turn, Frame, Quiet}
 use Rattle.steps.specs.After.{After}
@@ -34,9 +36,15 @@ sawJoin a s = record { listed = changed (s .listed) (a .joined) true; awaited = 
 abbrev pub sawTurn : After → Seen → Seen
 sawTurn a s = record { listed = s .listed; awaited = waitedFor (a .says); heard = false; run = s .run }
 
--- an accepted frame: the board that was waited for is heard (01: "A board is heard when a frame from it is accepted, and not otherwise"); the wait goes on where the answer says so
-abbrev pub sawFrame : After → Seen → Seen
-sawFrame a s = record { listed = s .listed; awaited = waitedFor (a .says); heard = true; run = changed (s .run) (s .awaited) 0 }
+-- an accepted frame: the board from whose address it came is heard (01: "A board is heard when a frame from it is accepted, and not otherwise"); the wait goes on where the answer says so
+abbrev pub sawFrame : List ℕ → After → Seen → Seen
+sawFrame received a s =
+    record {
+      listed = s .listed;
+      awaited = waitedFor (a .says);
+      heard = true;
+      run = λ p. choose (eqb (address (a .coordinator .setup) p) (headerOf received .source)) 0 (s .run p);
+    }
 
 -- an accepted quiet ends the wait: the message went unanswered where no frame was accepted in it (01: "It went unanswered when quiet ended its wait with no frame accepted in it"); a board that is named as dropped is listed no more
 abbrev pub sawQuiet : After → Seen → Seen
@@ -49,16 +57,16 @@ sawQuiet a s =
     }
 
 -- what is seen after one more step; a refused one shows nothing
-abbrev pub sawEvent : Event → After → Seen → Seen
-sawEvent (Join kind mac session) a s = sawJoin a s
-sawEvent Turn a s = sawTurn a s
-sawEvent Frame a s = sawFrame a s
-sawEvent Quiet a s = sawQuiet a s
+abbrev pub sawEvent : Event → List ℕ → After → Seen → Seen
+sawEvent (Join kind mac session) received a s = sawJoin a s
+sawEvent Turn received a s = sawTurn a s
+sawEvent Frame received a s = sawFrame received a s
+sawEvent Quiet received a s = sawQuiet a s
 
-abbrev pub saw : Event → After → Seen → Seen
-saw event a s = choose (isAccepted (a .says)) (sawEvent event a s) s
+abbrev pub saw : Input → After → Seen → Seen
+saw i a s = choose (isAccepted (a .says)) (sawEvent (i .event) (i .received) a s) s
 
 -- what is seen of a series
 unfoldable pub seen : Panel → World → Seen → List Input → Seen
 seen P w s [] = s
-seen P w s (i ∷ is) = seen P (left (P .step w i)) (saw (i .event) (P .step w i) s) is
+seen P w s (i ∷ is) = seen P (left (P .step w i)) (saw i (P .step w i) s) is

@@ -3,7 +3,7 @@ use Prim.Native.Nat.{ℕ, _≤_}
 use native.Mathlib.Omega.{arith}
 use mathlib.Core.Path.{_≡_, refl}
 use mathlib.Core.Bool.{Bool, true, false, not}
-use mathlib.Core.List.{List}
+use mathlib.Core.List.{List, []}
 use lib.ListN.{length}
 use lib.Dec.{eqb, ltb}
 use borrow.Author.Tests.{eqb-false, not-false}
@@ -50,6 +50,6 @@ module _ (s : Seen) (c : Coordinator) (t : List Node) (h : fits c t ≡ true) (g
     joined-changes : Changes t (oweAll (put t (chosen t (c .setup .k) mac) (joining t (c .setup .k) kind mac session))) (chosen t (c .setup .k) mac) true 0
     joined-changes = owe-changes (put-changes t (chosen t (c .setup .k) mac) (joining t (c .setup .k) kind mac session) (omega (arith, found)) (chosen-inside mac found) (begins .0) (begins .1))
 
-  pub join-tells : (kind mac session : ℕ) → Told s t (Join kind mac session) (joinOf c t kind mac session)
+  pub join-tells : (kind mac session : ℕ) → Told s t (Join kind mac session) [] (joinOf c t kind mac session)
   unfolding joinOf
-  join-tells kind mac session = rules-tell s c t (Join kind mac session) g (joinRules c t kind mac) _ (λ passed. seen-tells (Join kind mac session) refl (listed-tells 0 g (joined-changes kind mac session (not-false (isKind kind) (passed .1 .0)) (eqb-false (chosen t (c .setup .k) mac) 0 (passed .1 .1 .1 .1 .1 .0))) refl (λ two three. omega arith) (λ p. refl) (λ p. refl) (g .wait)))
+  join-tells kind mac session = rules-tell s c t (Join kind mac session) [] g (joinRules c t kind mac) _ (λ passed. seen-tells (Join kind mac session) [] refl (listed-tells 0 g (joined-changes kind mac session (not-false (isKind kind) (passed .1 .0)) (eqb-false (chosen t (c .setup .k) mac) 0 (passed .1 .1 .1 .1 .1 .0))) refl (λ two three. omega arith) (λ p. refl) (λ p. refl) (g .wait)))

@@ -48,9 +48,9 @@ at-rest c false = rw (phase-back resting) tt
 
 module _ (s : Seen) (c : Coordinator) (t : List Node) (h : fits c t ≡ true) (g : Agrees s c t) where
   -- the board's ACK came: nothing went unanswered
-  acked-tells : s .heard ≡ true → Told s t Quiet (accepted (withPhase c Resting) t rests [])
+  acked-tells : s .heard ≡ true → Told s t Quiet [] (accepted (withPhase c Resting) t rests [])
   unfolding choose
-  acked-tells heard = seen-tells Quiet refl (nobody-leaves (record { listed = g .listed; run = λ p l. same p ∙ g .run p l; wait = rw (phase-back resting) tt }) (λ p l. l) (λ p e. omega (arith, same p)))
+  acked-tells heard = seen-tells Quiet [] refl (nobody-leaves (record { listed = g .listed; run = λ p l. same p ∙ g .run p l; wait = rw (phase-back resting) tt }) (λ p l. l) (λ p e. omega (arith, same p)))
     where
       same : (p : ℕ) → sawQuiet (accepted (withPhase c Resting) t rests []) s .run p ≡ s .run p
       same p = heard-run s (accepted (withPhase c Resting) t rests []) p heard
@@ -61,16 +61,16 @@ module _ (s : Seen) (c : Coordinator) (t : List Node) (h : fits c t ≡ true) (g
     run-more p = unheard-run s (droppedAt c t b) p unheard ∙ ap (λ (q : ℕ). changed (s .run) q (s .run q + 1) p) for
 
     -- the first miss and the second
-    missed-tells : ltb (at t b .misses) 2 ≡ true → Told s t Quiet (accepted (withPhase c Resting) (put t b (missed (at t b))) rests [])
+    missed-tells : ltb (at t b .misses) 2 ≡ true → Told s t Quiet [] (accepted (withPhase c Resting) (put t b (missed (at t b))) rests [])
     unfolding choose
-    missed-tells few = seen-tells Quiet refl (listed-tells (s .run b + 1) g (put-changes t b (missed (at t b)) (board .from) (inside c t h board) (board .listed) refl) (omega (arith, one)) (λ two three. omega (arith, one)) (changed-none (s .listed) b true (g .listed b ∙ board .listed)) run-more (rw (phase-back resting) tt))
+    missed-tells few = seen-tells Quiet [] refl (listed-tells (s .run b + 1) g (put-changes t b (missed (at t b)) (board .from) (inside c t h board) (board .listed) refl) (omega (arith, one)) (λ two three. omega (arith, one)) (changed-none (s .listed) b true (g .listed b ∙ board .listed)) run-more (rw (phase-back resting) tt))
       where
         one : (s .run b ≡ at t b .misses) × (at t b .misses < 2)
         one = (g .run b (board .listed), ltb-true (at t b .misses) 2 few)
 
     -- the third miss
-    dropped-tells : ltb (at t b .misses) 2 ≡ false → Told s t Quiet (droppedAt c t b)
-    dropped-tells third = seen-tells Quiet refl (record { agrees = agrees-changed (s .run b + 1) g change (λ e. absurd (false≢true e)) (λ p. dropped-listed s (droppedAt c t b) p (board .from)) run-more (at-rest c (someListed (put t b none))); only = λ p. only p (ℕ-discrete p b); then = λ p. then p (ℕ-discrete p b) })
+    dropped-tells : ltb (at t b .misses) 2 ≡ false → Told s t Quiet [] (droppedAt c t b)
+    dropped-tells third = seen-tells Quiet [] refl (record { agrees = agrees-changed (s .run b + 1) g change (λ e. absurd (false≢true e)) (λ p. dropped-listed s (droppedAt c t b) p (board .from)) run-more (at-rest c (someListed (put t b none))); only = λ p. only p (ℕ-discrete p b); then = λ p. then p (ℕ-discrete p b) })
       where
         change : Changes t (oweAll (put t b none)) b false 0
         change = owe-changes (put-changes t b none (board .from) (inside c t h board) refl refl)
@@ -86,26 +86,26 @@ module _ (s : Seen) (c : Coordinator) (t : List Node) (h : fits c t ≡ true) (g
         then p (yes e) (m, n) = (ap (listedAt t) e ∙ board .listed, change .listed p ∙ changed-here (listedAt t) b false p e)
         then p (no ne) (m, n) = absurd (let z : ⊥ = omega (arith, run-more p ∙ changed-other (s .run) b (s .run b + 1) p ne) in z)
 
-    miss-tells : Told s t Quiet (missedAt c t b)
+    miss-tells : Told s t Quiet [] (missedAt c t b)
     unfolding choose
     miss-tells = go (ltb (at t b .misses) 2) refl
       where
-        go : (few : Bool) → ltb (at t b .misses) 2 ≡ few → Told s t Quiet (choose few (accepted (withPhase c Resting) (put t b (missed (at t b))) rests []) (droppedAt c t b))
+        go : (few : Bool) → ltb (at t b .misses) 2 ≡ few → Told s t Quiet [] (choose few (accepted (withPhase c Resting) (put t b (missed (at t b))) rests []) (droppedAt c t b))
         go true e = missed-tells e
         go false e = dropped-tells e
 
-  value : (p : Phase) → phaseOf (c .stand) ≡ p → Told s t Quiet (quietValue p c t)
+  value : (p : Phase) → phaseOf (c .stand) ≡ p → Told s t Quiet [] (quietValue p c t)
   unfolding choose
-  value Resting e = refused-tells s c t Quiet g NotWaiting
+  value Resting e = refused-tells s c t Quiet [] g NotWaiting
   value (Awaiting b x q a) e = go a (subst (Waits (s .awaited) (s .heard)) e (g .wait))
     where
-      go : (acked : Bool) → (s .awaited ≡ b) × (s .heard ≡ acked) → Told s t Quiet (choose acked (accepted (withPhase c Resting) t rests []) (missedAt c t b))
+      go : (acked : Bool) → (s .awaited ≡ b) × (s .heard ≡ acked) → Told s t Quiet [] (choose acked (accepted (withPhase c Resting) t rests []) (missedAt c t b))
       go true w = acked-tells (w .1)
       go false w = miss-tells b (awaited c t h e) (w .0) (w .1)
-  value (ForwardDue b q) e = refused-tells s c t Quiet g NotWaiting
-  value (ReturnDue b) e = refused-tells s c t Quiet g NotWaiting
-  value Unknown e = refused-tells s c t Quiet g NotWaiting
+  value (ForwardDue b q) e = refused-tells s c t Quiet [] g NotWaiting
+  value (ReturnDue b) e = refused-tells s c t Quiet [] g NotWaiting
+  value Unknown e = refused-tells s c t Quiet [] g NotWaiting
 
-  pub quiet-tells : Told s t Quiet (quietOf c t)
+  pub quiet-tells : Told s t Quiet [] (quietOf c t)
   unfolding quietIn
-  quiet-tells = rules-tell s c t Quiet g (quietRules (phaseOf (c .stand)) c t) (quietValue (phaseOf (c .stand)) c t) (λ passed. value (phaseOf (c .stand)) refl)
+  quiet-tells = rules-tell s c t Quiet [] g (quietRules (phaseOf (c .stand)) c t) (quietValue (phaseOf (c .stand)) c t) (λ passed. value (phaseOf (c .stand)) refl)

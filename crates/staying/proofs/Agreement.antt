@@ -28,7 +28,7 @@ use Rattle.coordinator.proofs.Fitting.{Board, fits-forty}
 use Rattle.steps.specs.declared.Event.{Event}
 use Rattle.steps.specs.After.{After, refused}
 use Rattle.series.specs.Series.{isAccepted}
-use Rattle.series.specs.Observed.{Seen, changed, sawEvent, saw}
+use Rattle.series.specs.Observed.{Seen, changed, sawEvent}
 
 -- in a wait, the board that is waited for and whether it was heard in it are those of the phase; outside of one nothing is asked
 abbrev pub Waits : ℕ → Bool → Phase → Type 0
@@ -121,19 +121,19 @@ listed-tells {s} {s′} {t = t} {a} {b} v g ch same below listed run wait = nobo
     never : (p : ℕ) → Thrice s s′ p → ⊥
     never p (two, three) = changed-case (s .run) b v p (λ x. x ≡ 3 → ⊥) (λ e m. below (sym (ap (s .run) e) ∙ two) m) (λ ne m. omega arith) (sym (run p) ∙ three)
 
+-- what is asked of a step that leaves a after this event with these bytes received: it is seen where it is accepted
+abbrev pub Told : Seen → List Node → Event → List ℕ → After → Type 0
+Told s t event received a = Tells s (choose (isAccepted (a .says)) (sawEvent event received a s) s) t a
+
 -- a step that is accepted is seen
-pub seen-tells : {s : Seen} {t : List Node} {a : After} (event : Event) → a .says .number ≡ 0 → Tells s (sawEvent event a s) t a → Tells s (saw event a s) t a
-seen-tells {s} {t} {a} event e g = subst (λ (s′ : Seen). Tells s s′ t a) (choose-yes (isAccepted (a .says)) (sawEvent event a s) (sawEvent event a s) s (eq-eqb (a .says .number) 0 e) refl) g
+pub seen-tells : {s : Seen} {t : List Node} {a : After} (event : Event) (received : List ℕ) → a .says .number ≡ 0 → Tells s (sawEvent event received a s) t a → Told s t event received a
+seen-tells {s} {t} {a} event received e g = subst (λ (s′ : Seen). Tells s s′ t a) (choose-yes (isAccepted (a .says)) (sawEvent event received a s) (sawEvent event received a s) s (eq-eqb (a .says .number) 0 e) refl) g
 
--- what is asked of a step that leaves a after this event
-abbrev pub Told : Seen → List Node → Event → After → Type 0
-Told s t event a = Tells s (saw event a s) t a
-
-module _ (s : Seen) (c : Coordinator) (t : List Node) (event : Event) (g : Agrees s c t) where
+module _ (s : Seen) (c : Coordinator) (t : List Node) (event : Event) (received : List ℕ) (g : Agrees s c t) where
   -- a refusal shows nothing and changes nothing
-  pub refused-tells : (r : Refusal) → Told s t event (refused c t r)
-  refused-tells r = subst (λ (s′ : Seen). Tells s s′ t (refused c t r)) (choose-no (isAccepted (refused c t r .says)) s (sawEvent event (refused c t r) s) s (ne-eqb (numberOf r) 0 (not-zero r)) refl) (nobody-leaves g (λ p l. l) (λ p e. omega arith))
+  pub refused-tells : (r : Refusal) → Told s t event received (refused c t r)
+  refused-tells r = subst (λ (s′ : Seen). Tells s s′ t (refused c t r)) (choose-no (isAccepted (refused c t r .says)) s (sawEvent event received (refused c t r) s) s (ne-eqb (numberOf r) 0 (not-zero r)) refl) (nobody-leaves g (λ p l. l) (λ p e. omega arith))
 
   -- so only the value of a step by rules is looked at
-  pub rules-tell : (rules : List (Bool × Refusal)) (a : After) → (Passed rules → Told s t event a) → Told s t event (ruled rules (refused c t) a)
-  rules-tell rules a value = by-rules (Told s t event) rules (refused c t) a (each refused-tells rules) value
+  pub rules-tell : (rules : List (Bool × Refusal)) (a : After) → (Passed rules → Told s t event received a) → Told s t event received (ruled rules (refused c t) a)
+  rules-tell rules a value = by-rules (Told s t event received) rules (refused c t) a (each refused-tells rules) value

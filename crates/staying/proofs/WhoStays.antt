@@ -23,7 +23,7 @@ use Rattle.staying.proofs.AfterFrame.{frame-tells}
 use Rattle.staying.proofs.AfterQuiet.{quiet-tells}
 
 -- any event
-event-tells : (s : Seen) (c : Coordinator) (t : List Node) → fits c t ≡ true → Agrees s c t → (event : Event) (b : List ℕ) (room : ℕ) → Told s t event (stepOf c t event b room)
+event-tells : (s : Seen) (c : Coordinator) (t : List Node) → fits c t ≡ true → Agrees s c t → (event : Event) (b : List ℕ) (room : ℕ) → Told s t event b (stepOf c t event b room)
 event-tells s c t h g (Join kind mac session) b room = join-tells s c t h g kind mac session
 event-tells s c t h g Turn b room = turn-tells s c t h g room
 event-tells s c t h g Frame b room = frame-tells s c t h g b room
@@ -35,20 +35,20 @@ pub record Holds (s : Seen) (w : World) : Type 0 where
   pub agrees : Agrees s (w .coordinator) (w .nodes)
 
 -- what a step tells from there
-pub step-tells : {s : Seen} {w : World} → Holds s w → (i : Input) → Told s (w .nodes) (i .event) (ours .step w i)
+pub step-tells : {s : Seen} {w : World} → Holds s w → (i : Input) → Told s (w .nodes) (i .event) (i .received) (ours .step w i)
 step-tells {s} {w} g i = event-tells s (w .coordinator) (w .nodes) (g .fit) (g .agrees) (i .event) (i .received) (i .room)
 
 -- it holds at a fresh start, where nobody is listed, and after any series of steps
 started-holds : {w : World} (k : ℕ) → Started k w → Holds nothing w
 started-holds {w} k f = record { fit = f .fit; agrees = record { listed = λ p. ap isListed (sym (f .free p)); run = λ p l. ap (λ (n : Node). n .misses) (sym (f .free p)); wait = rw (f .phase) tt } }
 
-step-holds : {s : Seen} {w : World} → Holds s w → (i : Input) → Holds (saw (i .event) (ours .step w i) s) (left (ours .step w i))
+step-holds : {s : Seen} {w : World} → Holds s w → (i : Input) → Holds (saw i (ours .step w i) s) (left (ours .step w i))
 step-holds {s} {w} g i = record { fit = step-fit w i (g .fit); agrees = step-tells g i .agrees }
 
 series-holds : (s : Seen) (w : World) → Holds s w → (is : List Input) → Holds (seen ours w s is) (after ours w is)
 unfolding seen after
 series-holds s w g [] = g
-series-holds s w g (i ∷ is) = series-holds (saw (i .event) (ours .step w i) s) (left (ours .step w i)) (step-holds g i) is
+series-holds s w g (i ∷ is) = series-holds (saw i (ours .step w i) s) (left (ours .step w i)) (step-holds g i) is
 
 pub holds : (k : ℕ) (w : World) → Fresh ours k w → (is : List Input) → Holds (seen ours w nothing is) (after ours w is)
 holds k w f is = series-holds nothing w (started-holds k (started f)) is
