@@ -38,7 +38,7 @@ use Rattle.coordinator.proofs.Fitting.{listed-told, listed-passes, listed-some,
 use Rattle.steps.specs.After.{refused}
 use Rattle.steps.specs.Join.{isResting, known, chosen, isClash, joining, joinRules, joinOf}
 use Rattle.lasting.proofs.Tables.{Follows, renewed-follows, put-fit, put-listed, join-fit, join-listed, owe-all-fit}
-use Rattle.lasting.proofs.Kept.{Keeps, refused-keeps, unfit-keeps, some-same, table-fit}
+use Rattle.lasting.proofs.Keeps.{Keeps, accepted-keeps, refused-keeps, never-keeps, unfit-keeps, some-same, table-fit}
 
 -- a MAC that is known is that of a listed board
 pub known-listed : (t : List Node) (k mac : ℕ) → ltb 0 (known t k mac) ≡ true → listedAt t (known t k mac) ≡ true
@@ -149,11 +149,11 @@ clash-never c t mac h full e = go (ltb 0 (known t (c .setup .k) mac)) refl full 
     unknown = eqb-true (known t (c .setup .k) mac) 0 (and-left (eqb (known t (c .setup .k) mac) 0) (isClash (c .setup) t (chosen t (c .setup .k) mac)) e)
 
     free : FreePlace t (c .setup .k) (lowestOf t Free (c .setup .k)) → isClash (c .setup) t (lowestOf t Free (c .setup .k)) ≡ false
-    free p = some-no _ 41 (λ q l. each q (listedAt t q) refl)
+    free p = some-no _ 41 (λ q l. nobody q (listedAt t q) refl)
       where
-        each : (q : ℕ) (b : Bool) → listedAt t q ≡ b → (b && eqb (address (c .setup) q) (address (c .setup) (lowestOf t Free (c .setup .k)))) ≡ false
-        each q true l = ne-eqb _ _ (λ s. free-apart (c .setup) (fit-told c t h .setup) t (table-fit c t h) (lowestOf t Free (c .setup .k)) q (p .place) (p .free) (listed-told t q l) (sym s))
-        each q false l = refl
+        nobody : (q : ℕ) (b : Bool) → listedAt t q ≡ b → (b && eqb (address (c .setup) q) (address (c .setup) (lowestOf t Free (c .setup .k)))) ≡ false
+        nobody q true l = ne-eqb _ _ (λ s. free-apart (c .setup) (fit-told c t h .setup) t (table-fit c t h) (lowestOf t Free (c .setup .k)) q (p .place) (p .free) (listed-told t q l) (sym s))
+        nobody q false l = refl
 
     go : (b : Bool) → ltb 0 (known t (c .setup .k) mac) ≡ b → eqb (choose b (known t (c .setup .k) mac) (lowestOf t Free (c .setup .k))) 0 ≡ false → isClash (c .setup) t (choose b (known t (c .setup .k) mac) (lowestOf t Free (c .setup .k))) ≡ true → ⊥
     go true l r s = omega (arith, unknown, ltb-true 0 (known t (c .setup .k) mac) l)
@@ -161,32 +161,13 @@ clash-never c t mac h full e = go (ltb 0 (known t (c .setup .k) mac)) refl full 
 
 pub join-keeps : (c : Coordinator) (t : List Node) (kind mac session : ℕ) → Keeps c t (joinOf c t kind mac session)
 unfolding joinOf
-join-keeps c t kind mac session = by-rules (Keeps c t) (joinRules c t kind mac) (refused c t) _ refusals (λ passed. record { fit = joined passed; setup = refl; says = λ _. refl })
+join-keeps c t kind mac session = by-rules (Keeps c t) (joinRules c t kind mac) (refused c t) _ refusals (λ passed. accepted-keeps c t _ (joined passed) refl refl)
   where
-    joined : Passed (joinRules c t kind mac) → fits c t ≡ true → fits (holding c true) (oweAll (put t (chosen t (c .setup .k) mac) (joining t (c .setup .k) kind mac session))) ≡ true
-    joined passed h = joined-fits c t h (idle (isResting (phaseOf (c .stand))) _ (passed .1 .1 .1 .0)) _ _ (placed c t h kind mac session (not-false _ (passed .1 .0)) (not-false _ (passed .1 .1 .0)) (passed .1 .1 .1 .1 .1 .0))
-
-    clash : eqb (chosen t (c .setup .k) mac) 0 ≡ false → (eqb (known t (c .setup .k) mac) 0 && isClash (c .setup) t (chosen t (c .setup .k) mac)) ≡ true → Keeps c t (refused c t AddressClash)
-    clash full e = record { fit = λ h. h; setup = refl; says = λ h. absurd (clash-never c t mac h full e) }
+    joined : Passed (joinRules c t kind mac) → fits (holding c true) (oweAll (put t (chosen t (c .setup .k) mac) (joining t (c .setup .k) kind mac session))) ≡ true
+    joined passed = joined-fits c t h (idle (isResting (phaseOf (c .stand))) _ (passed .1 .1 .1 .0)) _ _ (placed c t h kind mac session (not-false _ (passed .1 .0)) (not-false _ (passed .1 .1 .0)) (passed .1 .1 .1 .1 .1 .0))
+      where
+        h : fits c t ≡ true
+        h = not-false (fits c t) (passed .0)
 
     refusals : Each (λ r. Keeps c t (refused c t r)) (joinRules c t kind mac)
-    refusals = (
-      unfit-keeps c t,
-      λ _. (
-        (λ _. refused-keeps c t BadType refl),
-        λ _. (
-          (λ _. refused-keeps c t BadMac refl),
-          λ _. (
-            (λ _. refused-keeps c t Busy refl),
-            λ _. (
-              (λ _. refused-keeps c t Held refl),
-              λ _. (
-                (λ _. refused-keeps c t Full refl),
-                λ full.
-                    (clash full, λ _. tt),
-              ),
-            ),
-          ),
-        ),
-      ),
-    )
+    refusals = (unfit-keeps c t, λ _. ((λ _. refused-keeps c t BadType refl), λ _. ((λ _. refused-keeps c t BadMac refl), λ _. ((λ _. refused-keeps c t Busy refl), λ _. ((λ _. refused-keeps c t Held refl), λ _. ((λ _. refused-keeps c t Full refl), λ full. ((λ e. never-keeps c t AddressClash (λ h. clash-never c t mac h full e)), λ _. tt)))))))

@@ -1,5 +1,5 @@
 pub mod Tables
-pub mod Kept
+pub mod Keeps
 pub mod Join
 pub mod Turn
 pub mod Heard

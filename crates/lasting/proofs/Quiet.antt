@@ -29,7 +29,7 @@ use Rattle.coordinator.proofs.Changing.{with-phase-fits}
 use Rattle.steps.specs.After.{accepted, rests}
 use Rattle.steps.specs.Quiet.{droppedAt, missedAt, quietValue, quietRules, quietIn, quietOf}
 use Rattle.lasting.proofs.Tables.{missed-follows, clear-fit, owe-all-fit}
-use Rattle.lasting.proofs.Kept.{Keeps, Stays, refused-keeps, rules-keep, put-stays, some-same, table-fit, phase-keeps}
+use Rattle.lasting.proofs.Keeps.{Keeps, accepted-keeps, Stays, refused-keeps, rules-keep, put-stays, some-same, table-fit, phase-keeps}
 
 -- a hold is fit wherever somebody is listed
 hold-some : (held : ℕ) (t u : List Node) → holdFits held t ≡ true → someListed u ≡ true → holdFits held u ≡ true
@@ -55,8 +55,8 @@ module _ (c : Coordinator) (t : List Node) (h : fits c t ≡ true) (board : ℕ)
   dropped-keeps = go (someListed (put t board none)) refl
     where
       go : (b : Bool) → someListed (put t board none) ≡ b → Keeps c t (record { coordinator = choose b (withPhase c Resting) (holding (withPhase c Resting) false); nodes = oweAll (put t board none); says = rests; bytes = []; joined = 0; dropped = board })
-      go true s = record { fit = λ _. dropped-fits (c .held) (hold-some (c .held) t (oweAll (put t board none)) (fits-hold c t h) (some-same (put t board none) (oweAll (put t board none)) (owe-all-listed (put t board none)) ∙ s)); setup = refl; says = λ _. refl }
-      go false s = record { fit = λ _. dropped-fits 0 refl; setup = refl; says = λ _. refl }
+      go true s = accepted-keeps c t _ (dropped-fits (c .held) (hold-some (c .held) t (oweAll (put t board none)) (fits-hold c t h) (some-same (put t board none) (oweAll (put t board none)) (owe-all-listed (put t board none)) ∙ s))) refl refl
+      go false s = accepted-keeps c t _ (dropped-fits 0 refl) refl refl
 
   counted : ltb (at t board .misses) 2 ≡ true → Stays (c .setup .k) t (put t board (missed (at t board)))
   counted m = put-stays (c .setup .k) t (table-fit c t h) board (missed (at t board)) (listed-told t board l) (missed-follows (at t board) (omega (arith, ltb-true (at t board .misses) 2 m)))
@@ -66,7 +66,7 @@ module _ (c : Coordinator) (t : List Node) (h : fits c t ≡ true) (board : ℕ)
   missed-keeps = go (ltb (at t board .misses) 2) refl
     where
       go : (b : Bool) → ltb (at t board .misses) 2 ≡ b → Keeps c t (choose b (accepted (withPhase c Resting) (put t board (missed (at t board))) rests []) (droppedAt c t board))
-      go true m = record { fit = λ _. phase-keeps c t h _ (counted m) (c .kept) resting refl; setup = refl; says = λ _. refl }
+      go true m = accepted-keeps c t _ (phase-keeps c t h _ (counted m) (c .kept) resting refl) refl refl
       go false m = dropped-keeps
 
 quiet-value : (c : Coordinator) (t : List Node) → fits c t ≡ true → (p : Phase) → phaseOf (c .stand) ≡ p → Keeps c t (quietValue p c t)
@@ -75,7 +75,7 @@ quiet-value c t h Resting e = refused-keeps c t NotWaiting refl
 quiet-value c t h (Awaiting b x q a) e = go a
   where
     go : (acked : Bool) → Keeps c t (choose acked (accepted (withPhase c Resting) t rests []) (missedAt c t b))
-    go true = record { fit = λ _. with-phase-fits c t h resting refl; setup = refl; says = λ _. refl }
+    go true = accepted-keeps c t _ (with-phase-fits c t h resting refl) refl refl
     go false = missed-keeps c t h b (awaited c t h e .listed)
 quiet-value c t h (ForwardDue b q) e = refused-keeps c t NotWaiting refl
 quiet-value c t h (ReturnDue b) e = refused-keeps c t NotWaiting refl

@@ -34,7 +34,7 @@ use Rattle.coordinator.proofs.Fitting.{Carried, listed-told, phase-told, fits-i
 use Rattle.steps.specs.After.{refused, accepted, delivers, transmits}
 use Rattle.steps.specs.Receive.{payload, hear, hearAck, keptOf, acking, routed, heardIn, takenAs, takenIn, receiveRules, receiveIn, receiveOf}
 use Rattle.lasting.proofs.Tables.{heard-follows, renewed-follows}
-use Rattle.lasting.proofs.Kept.{Keeps, Stays, usual, refused-keeps, rules-keep, put-stays, owe-stays, table-fit, phase-keeps}
+use Rattle.lasting.proofs.Keeps.{Keeps, accepted-keeps, Stays, refused-keeps, rules-keep, put-stays, owe-stays, table-fit, phase-keeps}
 use Rattle.lasting.proofs.Heard.{offer-heard, list-heard, forward-heard, return-heard}
 
 -- a request that is routed, and a response, are kept as fit asks
@@ -46,10 +46,10 @@ kept-response h p m few = both _ _ (lt-ltb 128 (h .message) (omega arith)) (le-l
 
 -- a board that is heard stays listed, with the others
 module _ (c : Coordinator) (t : List Node) (h : fits c t ≡ true) (b : ℕ) (l : listedAt t b ≡ true) where
-  hear-stays : Stays (c .setup .k) t (hear t b)
+  pub hear-stays : Stays (c .setup .k) t (hear t b)
   hear-stays = put-stays (c .setup .k) t (table-fit c t h) b (heard (at t b)) (listed-told t b l) (heard-follows (at t b))
 
-  hear-ack-stays : (session : ℕ) → Stays (c .setup .k) t (hearAck t b session)
+  pub hear-ack-stays : (session : ℕ) → Stays (c .setup .k) t (hearAck t b session)
   unfolding choose
   hear-ack-stays session = go (eqb session (at t b .session))
     where
@@ -58,13 +58,13 @@ module _ (c : Coordinator) (t : List Node) (h : fits c t ≡ true) (b : ℕ) (l 
       go false = owe-stays (c .setup .k) t (put t b (renewed (heard (at t b)) session)) (put-stays (c .setup .k) t (table-fit c t h) b (renewed (heard (at t b)) session) (listed-told t b l) (renewed-follows (at t b) session))
 
   -- where the ACK has room: what the coordinator is then fits the table in which the board is heard
-  acking-keeps : (room : ℕ) (says : Told) (after : Coordinator) → after .setup ≡ c .setup → fits after (hear t b) ≡ true → usual (says .number) ≡ true → Keeps c t (acking c t b room says after)
+  acking-keeps : (room : ℕ) (says : Told) (after : Coordinator) → after .setup ≡ c .setup → fits after (hear t b) ≡ true → says .number ≡ 0 → Keeps c t (acking c t b room says after)
   unfolding choose
   acking-keeps room says after same fit u = go (ltb room 29)
     where
       go : (s : Bool) → Keeps c t (choose s (refused c t NoRoom) (accepted after (hear t b) says (signedFrame (c .setup) t b ackCode)))
       go true = refused-keeps c t NoRoom refl
-      go false = record { fit = λ _. fit; setup = same; says = λ _. u }
+      go false = accepted-keeps c t _ fit same u
 
   -- the wait ends
   ended : (u : List Node) → Stays (c .setup .k) t u → fits (withPhase c Resting) u ≡ true
@@ -82,18 +82,18 @@ module _ (c : Coordinator) (t : List Node) (h : fits c t ≡ true) (b : ℕ) (l 
 
 -- what each wait hears
 module _ (c : Coordinator) (t : List Node) (h : fits c t ≡ true) (f : Header) (p : List ℕ) (few : length p ≤ 240) (room : ℕ) where
-  -- what holds of a wait's end holds of an ACK that ends it
+  -- an ACK that ends its wait
   ack-ends : (b : ℕ) → listedAt t b ≡ true → fits (withPhase c Resting) (hearAck t b (ackSession p)) ≡ true
   ack-ends b l = ended c t h b l (hearAck t b (ackSession p)) (hear-ack-stays c t h b l (ackSession p))
 
-  -- and of a frame that is acknowledged and ends it
-  acking-ends : (b : ℕ) → listedAt t b ≡ true → (says : Told) → usual (says .number) ≡ true → Keeps c t (acking c t b room says (withPhase c Resting))
+  -- a frame that is acknowledged and ends its wait
+  acking-ends : (b : ℕ) → listedAt t b ≡ true → (says : Told) → says .number ≡ 0 → Keeps c t (acking c t b room says (withPhase c Resting))
   acking-ends b l says u = acking-keeps c t h b l room says (withPhase c Resting) refl (ended c t h b l (hear t b) (hear-stays c t h b l)) u
 
   taken-offer : (b q : ℕ) (a : Bool) → listedAt t b ≡ true → Keeps c t (takenAs (heardIn Offer b a c t f p) Offer b q c t f p room)
   taken-offer b q a l =
       offer-heard (λ x. Keeps c t (takenAs x Offer b q c t f p room)) (refused-keeps c t UnexpectedType refl) (f .message) (f .method) (isAck (at t b .mac) p) (refused-keeps c t BadMethod refl)
-      (record { fit = λ _. ack-ends b l; setup = refl; says = λ _. refl })
+      (accepted-keeps c t _ (ack-ends b l) refl refl)
       (acking-ends b l delivers refl)
       (λ r low high. route (routed-fits c t h b l f p (kept-request f p r low high few) (f .method) (f .parameter1)))
     where
@@ -107,7 +107,7 @@ module _ (c : Coordinator) (t : List Node) (h : fits c t ≡ true) (f : Header) 
   unfolding phaseFits
   taken-forward b q a e =
       forward-heard (λ x. Keeps c t (takenAs x Forward b q c t f p room)) (refused-keeps c t UnexpectedType refl) (f .message) (c .kept .message) (isAck (at t b .mac) p) a
-      (record { fit = λ _. phase-keeps c t h _ (hear-ack-stays c t h b l (ackSession p)) (c .kept) (forwarding b q true) (both _ _ l (both _ _ (carried .requester .listed) (carried .request))); setup = refl; says = λ _. refl })
+      (accepted-keeps c t _ (phase-keeps c t h _ (hear-ack-stays c t h b l (ackSession p)) (c .kept) (forwarding b q true) (both _ _ l (both _ _ (carried .requester .listed) (carried .request)))) refl refl)
       (λ type. acking-keeps c t h b l room transmits (withPhase (keeping c (keptOf f p)) (ReturnDue q)) refl (phase-keeps c t h _ (hear-stays c t h b l) (keptOf f p) (return-due q) (both _ _ (carried .requester .listed) (kept-response f p (omega (arith, phase-told t (c .kept) (Awaiting b Forward q a) (fits-in c t h e) .1 .message .from)) few))) refl)
     where
       carried : Carried c t b q
@@ -117,7 +117,7 @@ module _ (c : Coordinator) (t : List Node) (h : fits c t ≡ true) (f : Header) 
       l = carried .board .listed
 
   taken-return : (b q : ℕ) (a : Bool) → listedAt t b ≡ true → Keeps c t (takenAs (heardIn Return b a c t f p) Return b q c t f p room)
-  taken-return b q a l = return-heard (λ x. Keeps c t (takenAs x Return b q c t f p room)) (refused-keeps c t UnexpectedType refl) (f .message) (isAck (at t b .mac) p) (record { fit = λ _. ack-ends b l; setup = refl; says = λ _. refl })
+  taken-return b q a l = return-heard (λ x. Keeps c t (takenAs x Return b q c t f p room)) (refused-keeps c t UnexpectedType refl) (f .message) (isAck (at t b .mac) p) (accepted-keeps c t _ (ack-ends b l) refl refl)
 
   taken-keeps : (ph : Phase) → phaseOf (c .stand) ≡ ph → Keeps c t (takenIn ph c t f p room)
   taken-keeps Resting e = refused-keeps c t NotAwaited refl

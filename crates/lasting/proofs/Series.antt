@@ -16,7 +16,7 @@ use Rattle.coordinator.proofs.Fitting.{listed-told, fit-told}
 use Rattle.series.specs.Series.{Input, World, left, Fresh, after}
 use Rattle.series.specs.Demand.{NoTwoAlike, FitForEver}
 use Rattle.series.specs.Ours.{ours}
-use Rattle.lasting.proofs.Kept.{usual}
+use Rattle.lasting.proofs.Keeps.{usual}
 use Rattle.lasting.proofs.Keeping.{isFit, step-keeps, step-fit, step-setup}
 use Rattle.lasting.proofs.Starting.{started}
 

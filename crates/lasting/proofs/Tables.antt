@@ -53,19 +53,19 @@ owe-follows n = record { kind = refl; mac = refl; misses = λ h. h; owed = λ h.
 -- every record
 
 -- what a change may do to a record: clear it, or leave its board there; a blank record stays blank
-abbrev pub Kept : Node → Node → Type 0
-Kept old new = (new ≡ none) ⊎ ((Follows old new) × (old ≡ none → new ≡ none))
+abbrev pub Changed : Node → Node → Type 0
+Changed old new = (new ≡ none) ⊎ ((Follows old new) × (old ≡ none → new ≡ none))
 
 -- a record that is as it was
-unchanged : (n : Node) → Kept n n
+unchanged : (n : Node) → Changed n n
 unchanged n = inr (record { kind = refl; mac = refl; misses = λ h. h; owed = λ h. h }, λ e. e)
 
-module _ (k : ℕ) (t u : List Node) (size : length u ≡ length t) (kept : (p : ℕ) → Kept (at t p) (at u p)) (f : FitTable k t) where
+module _ (k : ℕ) (t u : List Node) (size : length u ≡ length t) (kept : (p : ℕ) → Changed (at t p) (at u p)) (f : FitTable k t) where
   -- what is listed after the change was listed before, and is of the same board
   follows : (p : ℕ) → Listed u p → Follows (at t p) (at u p)
   follows p l = go (kept p)
     where
-      go : Kept (at t p) (at u p) → Follows (at t p) (at u p)
+      go : Changed (at t p) (at u p) → Follows (at t p) (at u p)
       go (inl e) = absurd (l (ap (λ (n : Node). n .kind) e))
       go (inr (s, b)) = s
 
@@ -75,7 +75,7 @@ module _ (k : ℕ) (t u : List Node) (size : length u ≡ length t) (kept : (p :
   in-ranges : (p : ℕ) → Listed u p → InRanges (at t p) → InRanges (at u p)
   in-ranges p l r = record { listed = l; kind = λ e. r .kind (sym (follows p l .kind) ∙ e); mac = rw (follows p l .mac) (r .mac); misses = follows p l .misses (r .misses); owed = follows p l .owed (r .owed) }
 
-  blanks : (p : ℕ) → Kept (at t p) (at u p) → at u p .kind ≡ 0 → at u p ≡ none
+  blanks : (p : ℕ) → Changed (at t p) (at u p) → at u p .kind ≡ 0 → at u p ≡ none
   blanks p (inl e) z = e
   blanks p (inr (s, b)) z = b (f .blank p (sym (s .kind) ∙ z))
 
@@ -109,9 +109,9 @@ module _ (k : ℕ) (t : List Node) (f : FitTable k t) where
 
   -- a board's record changed
   pub put-fit : (p : ℕ) (n : Node) → Listed t p → Follows (at t p) n → FitTable k (put t p n)
-  put-fit p n l s = kept-fit k t (put t p n) (put-length t p n) (λ q. at-put-each (Kept (at t q)) t p n (f .within p l .from) (listed-inside p l) q (here q) (λ ne. unchanged (at t q))) f
+  put-fit p n l s = kept-fit k t (put t p n) (put-length t p n) (λ q. at-put-each (Changed (at t q)) t p n (f .within p l .from) (listed-inside p l) q (here q) (λ ne. unchanged (at t q))) f
     where
-      here : (q : ℕ) → q ≡ p → Kept (at t q) n
+      here : (q : ℕ) → q ≡ p → Changed (at t q) n
       here q e = rw e (inr (s, λ z. absurd (l (ap (λ (m : Node). m .kind) z))))
 
   -- and the same boards are listed
@@ -120,7 +120,7 @@ module _ (k : ℕ) (t : List Node) (f : FitTable k t) where
 
   -- a board's record cleared
   pub clear-fit : (p : ℕ) → Listed t p → FitTable k (put t p none)
-  clear-fit p l = kept-fit k t (put t p none) (put-length t p none) (λ q. at-put-each (Kept (at t q)) t p none (f .within p l .from) (listed-inside p l) q (λ e. inl refl) (λ ne. unchanged (at t q))) f
+  clear-fit p l = kept-fit k t (put t p none) (put-length t p none) (λ q. at-put-each (Changed (at t q)) t p none (f .within p l .from) (listed-inside p l) q (λ e. inl refl) (λ ne. unchanged (at t q))) f
 
   -- a new board's record at a position, with a MAC that is nobody's
   module _ (p : ℕ) (n : Node) (here : Position k p) (inside : p ≤ length t) (r : InRanges n) (new : (q : ℕ) → Listed t q → at t q .mac ≡ n .mac → ⊥) where

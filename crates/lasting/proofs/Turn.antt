@@ -29,7 +29,7 @@ use Rattle.coordinator.proofs.Fitting.{Board, listed-told, some-listed, fits-in
 use Rattle.coordinator.proofs.Changing.{with-phase-fits, offered-fits}
 use Rattle.steps.specs.Turn.{owedTo, dueList, dueOffer, dueOwn, dueIn, turnRules, sent, turnIn, turnOf}
 use Rattle.lasting.proofs.Tables.{told-follows}
-use Rattle.lasting.proofs.Kept.{Keeps, Stays, rules-keep, put-stays, table-fit, phase-keeps}
+use Rattle.lasting.proofs.Keeps.{Keeps, accepted-keeps, Stays, rules-keep, put-stays, table-fit, phase-keeps}
 
 -- a list goes to a listed board
 pub owed-listed : (c : Coordinator) (t : List Node) → ltb 0 (owedTo c t) ≡ true → listedAt t (owedTo c t) ≡ true
@@ -50,7 +50,7 @@ module _ (c : Coordinator) (t : List Node) (h : fits c t ≡ true) (s : someList
   -- the list's wait, with the mark cleared
   list-keeps : ltb 0 (owedTo c t) ≡ true → Keeps c t (sent (dueList c t (owedTo c t)))
   unfolding phaseFits
-  list-keeps e = record { fit = λ _. phase-keeps c t h _ cleared (c .kept) (listing (owedTo c t)) (both (listedAt t (owedTo c t)) true (owed-listed c t e) refl); setup = refl; says = λ _. refl }
+  list-keeps e = accepted-keeps c t _ (phase-keeps c t h _ cleared (c .kept) (listing (owedTo c t)) (both (listedAt t (owedTo c t)) true (owed-listed c t e) refl)) refl refl
     where
       cleared : Stays (c .setup .k) t (put t (owedTo c t) (told (at t (owedTo c t))))
       cleared = put-stays (c .setup .k) t (table-fit c t h) (owedTo c t) (told (at t (owedTo c t))) (listed-told t (owedTo c t) (owed-listed c t e)) (told-follows (at t (owedTo c t)))
@@ -61,14 +61,14 @@ module _ (c : Coordinator) (t : List Node) (h : fits c t ≡ true) (s : someList
     where
       go : (b : Bool) → ltb 0 (owedTo c t) ≡ b → Keeps c t (sent (choose b (dueList c t (owedTo c t)) (dueOffer c t (nextListed t (c .setup .k) (c .last)))))
       go true e = list-keeps e
-      go false e = record { fit = λ _. offered-fits c t h (nextListed t (c .setup .k) (c .last)) (next-listed c t h s); setup = refl; says = λ _. refl }
+      go false e = accepted-keeps c t _ (offered-fits c t h (nextListed t (c .setup .k) (c .last)) (next-listed c t h s)) refl refl
 
   due-keeps : (p : Phase) → phaseOf (c .stand) ≡ p → Keeps c t (sent (dueIn p c t))
   unfolding phaseFits
   due-keeps Resting e = own-keeps
   due-keeps (Awaiting b x q a) e = own-keeps
-  due-keeps (ForwardDue b q) e = record { fit = λ _. with-phase-fits c t h (forwarding b q false) (fits-in c t h e); setup = refl; says = λ _. refl }
-  due-keeps (ReturnDue b) e = record { fit = λ _. with-phase-fits c t h (returning b) (both (listedAt t b) true (due-return c t h e .listed) refl); setup = refl; says = λ _. refl }
+  due-keeps (ForwardDue b q) e = accepted-keeps c t _ (with-phase-fits c t h (forwarding b q false) (fits-in c t h e)) refl refl
+  due-keeps (ReturnDue b) e = accepted-keeps c t _ (with-phase-fits c t h (returning b) (both (listedAt t b) true (due-return c t h e .listed) refl)) refl refl
   due-keeps Unknown e = own-keeps
 
 pub turn-keeps : (c : Coordinator) (t : List Node) (room : ℕ) → Keeps c t (turnOf c t room)

@@ -1,7 +1,7 @@
 -- What a step keeps, and how: the setup, the boards that are listed, and that coordinator and table are fit.
 use Prim.Native.Nat.{ℕ}
 use mathlib.Core.Path.{_≡_, refl, sym, _∙_}
-use mathlib.Core.Bool.{Bool, true, _&&_, not, false≢true}
+use mathlib.Core.Bool.{Bool, true, false, _&&_, not, false≢true}
 use mathlib.Core.List.{List, [], _∷_}
 use lib.Dec.{eqb}
 use borrow.Author.Tests.{not-true, not-false}
@@ -28,26 +28,49 @@ use Rattle.coordinator.specs.Change.{withPhase, keeping}
 use Rattle.coordinator.proofs.Phases.{Made, phase-back}
 use Rattle.coordinator.proofs.Fitting.{fits-of, fits-setup, fits-hold, fits-last, fit-told}
 use Rattle.steps.specs.After.{After, refused}
+use Rattle.series.specs.Series.{isAccepted}
 use Rattle.lasting.proofs.Tables.{Follows, put-fit, put-listed, owe-all-fit}
 
 -- a number that a panel in a fit state may give: neither 22 nor 17
 abbrev pub usual : ℕ → Bool
 usual n = not (eqb n 22) && not (eqb n 17)
 
--- a step keeps fit what was fit, and the setup; and in a fit state it gives neither 22 nor 17
+-- a refusal's outcome: coordinator and records as they were, nothing written, nobody joined or dropped (00, demand 1)
+pub record AsItWas (c : Coordinator) (t : List Node) (a : After) : Type 0 where
+  pub coordinator : a .coordinator ≡ c
+  pub nodes : a .nodes ≡ t
+  pub bytes : a .bytes ≡ []
+  pub joined : a .joined ≡ 0
+  pub dropped : a .dropped ≡ 0
+
+-- a step keeps fit what was fit, and the setup; in a fit state it gives neither 22 nor 17; and where it refuses all is as it was
 pub record Keeps (c : Coordinator) (t : List Node) (a : After) : Type 0 where
   pub fit : fits c t ≡ true → fits (a .coordinator) (a .nodes) ≡ true
   pub setup : a .coordinator .setup ≡ c .setup
   pub says : fits c t ≡ true → usual (a .says .number) ≡ true
+  pub refusal : isAccepted (a .says) ≡ false → AsItWas c t a
 
--- a refusal keeps all as it was
 module _ (c : Coordinator) (t : List Node) where
-  pub refused-keeps : (r : Refusal) → usual (numberOf r) ≡ true → Keeps c t (refused c t r)
-  refused-keeps r u = record { fit = λ h. h; setup = refl; says = λ h. u }
+  -- a step that is accepted
+  pub accepted-keeps : (a : After) → fits (a .coordinator) (a .nodes) ≡ true → a .coordinator .setup ≡ c .setup → a .says .number ≡ 0 → Keeps c t a
+  accepted-keeps a f s e = record { fit = λ h. f; setup = s; says = λ h. rw e refl; refusal = λ r. absurd (false≢true (sym r ∙ rw e refl)) }
 
-  -- 22 is not given in a fit state
+  -- a refusal
+  pub as-it-was : (r : Refusal) → AsItWas c t (refused c t r)
+  as-it-was r = record { coordinator = refl; nodes = refl; bytes = refl; joined = refl; dropped = refl }
+
+  refused-saying : (r : Refusal) → (fits c t ≡ true → usual (numberOf r) ≡ true) → Keeps c t (refused c t r)
+  refused-saying r u = record { fit = λ h. h; setup = refl; says = u; refusal = λ _. as-it-was r }
+
+  pub refused-keeps : (r : Refusal) → usual (numberOf r) ≡ true → Keeps c t (refused c t r)
+  refused-keeps r u = refused-saying r (λ h. u)
+
+  -- a number that is not given in a fit state
+  pub never-keeps : (r : Refusal) → (fits c t ≡ true → ⊥) → Keeps c t (refused c t r)
+  never-keeps r n = refused-saying r (λ h. absurd (n h))
+
   pub unfit-keeps : not (fits c t) ≡ true → Keeps c t (refused c t StateUnfit)
-  unfit-keeps e = record { fit = λ h. h; setup = refl; says = λ h. absurd (false≢true (sym (not-true (fits c t) e) ∙ h)) }
+  unfit-keeps e = never-keeps StateUnfit (λ h. false≢true (sym (not-true (fits c t) e) ∙ h))
 
   -- rules that say neither 22 nor 17
   abbrev usuals : List (Bool × Refusal) → Bool
@@ -66,9 +89,6 @@ module _ (c : Coordinator) (t : List Node) where
 pub record Stays (k : ℕ) (t u : List Node) : Type 0 where
   pub fit : FitTable k u
   pub listed : (p : ℕ) → listedAt u p ≡ listedAt t p
-
-pub as-it-was : (k : ℕ) (t : List Node) → FitTable k t → Stays k t t
-as-it-was k t f = record { fit = f; listed = λ p. refl }
 
 pub put-stays : (k : ℕ) (t : List Node) → FitTable k t → (p : ℕ) (n : Node) → Listed t p → Follows (at t p) n → Stays k t (put t p n)
 put-stays k t f p n l s = record { fit = put-fit k t f p n l s; listed = put-listed k t f p n l s }
