@@ -5,18 +5,23 @@ use mathlib.Core.Path.{_≡_, refl, sym}
 use mathlib.Core.Bool.{Bool, true, false, _&&_, _||_, not, false≢true}
 use mathlib.Core.List.{[], _∷_}
 use lib.Dec.{eqb, ltb}
-use borrow.Author.Tests.{eqb-true, eqb-false, ltb-false}
+use borrow.Author.Tests.{eqb-true, eqb-false, ne-eqb, ltb-false, not-true}
 use Rattle.ground.specs.Choose.{choose}
 use Rattle.refusal.specs.declared.Refusal.the-variants.{UnexpectedType, BadEcho, BadMethod}
 use Rattle.refusal.proofs.Rules.{Passed, by-rules}
 use Rattle.accept.specs.declared.Heard.{Heard}
 use Rattle.accept.specs.declared.Heard.the-variants.{Ack, Echo, Deliver, Route, Answer, Refused}
-use Rattle.accept.specs.Accept.{ackType, requestType, echoType, answerType, unexpected, heardAfterOffer, heardAfterList, heardAfterForward, heardAfterReturn}
+use Rattle.accept.specs.Accept.{ackType, requestType, unexpected, heardAfterOffer, heardAfterList, heardAfterForward, heardAfterReturn}
 
 -- where no ACK came and none is unexpected, the other type that is listed came
 listed-type : (b : Bool) → (not b || false) ≡ false → b ≡ true
 listed-type true e = refl
 listed-type false e = sym e
+
+-- where an ACK came that is not unexpected, and no other type is, it is the one that is listed
+first : (b o a : Bool) → o ≡ false → (not (b || o) || a) ≡ false → b ≡ true
+first true o a h e = refl
+first false o a h e = absurd (false≢true (sym (rw h at e)))
 
 module _ {ℓ} (P : Heard → Type ℓ) (unexpected-type : P (Refused UnexpectedType)) where
   -- after an offer: an ACK, a request for the host, a request with method 1 to 3, or 7 or 9
@@ -40,17 +45,17 @@ module _ {ℓ} (P : Heard → Type ℓ) (unexpected-type : P (Refused Unexpected
   -- after a list: its echo, or 7 or 8
   pub list-heard : (m : ℕ) (same : Bool) → P (Refused BadEcho) → P Echo → P (heardAfterList m same)
   unfolding heardAfterList
-  list-heard m same bad echo = by-rules P ((not (echoType m), UnexpectedType) ∷ (not same, BadEcho) ∷ []) Refused Echo ((λ _. unexpected-type), λ _. ((λ _. bad), λ _. tt)) (λ passed. echo)
+  list-heard m same bad echo = by-rules P ((not (eqb m 148), UnexpectedType) ∷ (not same, BadEcho) ∷ []) Refused Echo ((λ _. unexpected-type), λ _. ((λ _. bad), λ _. tt)) (λ passed. echo)
 
-  -- after a forward: an ACK, the response, or 7
-  pub forward-heard : (m q : ℕ) (a d : Bool) → P Ack → (m ≡ q + 128 → P Answer) → P (heardAfterForward m q a d)
+  -- after a forward: an ACK where none came yet, the response, or 7
+  pub forward-heard : (m q : ℕ) (a d : Bool) → (d ≡ false → P Ack) → (m ≡ q + 128 → P Answer) → P (heardAfterForward m q a d)
   unfolding heardAfterForward choose
   forward-heard m q a d ack answer =
-      by-rules P ((unexpected ((ackType m && not d) || answerType q m) m a, UnexpectedType) ∷ []) Refused (choose (ackType m) Ack Answer) ((λ _. unexpected-type), λ _. tt) (λ passed. value (ackType m) refl passed)
+      by-rules P ((unexpected ((ackType m && not d) || eqb m (q + 128)) m a, UnexpectedType) ∷ []) Refused (choose (ackType m) Ack Answer) ((λ _. unexpected-type), λ _. tt) (λ passed. value (ackType m) refl passed)
     where
-      value : (x : Bool) → ackType m ≡ x → Passed ((unexpected ((ackType m && not d) || answerType q m) m a, UnexpectedType) ∷ []) → P (choose x Ack Answer)
-      value true e passed = ack
-      value false e passed = answer (eqb-true m (q + 128) (listed-type (answerType q m) (rw e at (passed .0))))
+      value : (x : Bool) → ackType m ≡ x → Passed ((unexpected ((ackType m && not d) || eqb m (q + 128)) m a, UnexpectedType) ∷ []) → P (choose x Ack Answer)
+      value true e passed = ack (not-true d (first (not d) (eqb m (q + 128)) (not a) (ne-eqb m (q + 128) (λ z. omega (arith, eqb-true m 0 e))) (rw e at (passed .0))))
+      value false e passed = answer (eqb-true m (q + 128) (listed-type (eqb m (q + 128)) (rw e at (passed .0))))
 
   -- after a return: an ACK, or 7
   pub return-heard : (m : ℕ) (a : Bool) → P Ack → P (heardAfterReturn m a)
