@@ -5,7 +5,7 @@ use mathlib.Core.Path.{_≡_, refl, sym}
 use mathlib.Core.Bool.{Bool, true, false, _&&_, _||_, not, false≢true}
 use mathlib.Core.List.{[], _∷_}
 use lib.Dec.{eqb, ltb}
-use borrow.Author.Tests.{eqb-true, eqb-false, ltb-false}
+use borrow.Author.Tests.{eqb-true, eqb-false, ne-eqb, ltb-false, not-true}
 use Rattle.ground.specs.Choose.{choose}
 use Rattle.refusal.specs.declared.Refusal.the-variants.{UnexpectedType, BadEcho, BadMethod}
 use Rattle.refusal.proofs.Rules.{Passed, by-rules}
@@ -17,6 +17,11 @@ use Rattle.accept.specs.Accept.{ackType, requestType, offerTypes, listTypes, fo
 listed-type : (b : Bool) → (not b || false) ≡ false → b ≡ true
 listed-type true e = refl
 listed-type false e = sym e
+
+-- where an ACK came that is not unexpected, and no other type is, it is the one that is listed
+first : (b o a : Bool) → o ≡ false → (not (b || o) || a) ≡ false → b ≡ true
+first true o a h e = refl
+first false o a h e = absurd (false≢true (sym (rw h at e)))
 
 module _ {ℓ} (P : Heard → Type ℓ) (unexpected-type : P (Refused UnexpectedType)) where
   -- after an offer: an ACK, a request for the host, a request with method 1 to 3, or 7 or 9
@@ -42,14 +47,14 @@ module _ {ℓ} (P : Heard → Type ℓ) (unexpected-type : P (Refused Unexpected
   unfolding heardAfterList
   list-heard m same bad echo = by-rules P ((not (listTypes m), UnexpectedType) ∷ (not same, BadEcho) ∷ []) Refused Echo ((λ _. unexpected-type), λ _. ((λ _. bad), λ _. tt)) (λ passed. echo)
 
-  -- after a forward: an ACK, the response, or 7
-  pub forward-heard : (m q : ℕ) (a d : Bool) → P Ack → (m ≡ q + 128 → P Answer) → P (heardAfterForward m q a d)
+  -- after a forward: an ACK where none came yet, the response, or 7
+  pub forward-heard : (m q : ℕ) (a d : Bool) → (d ≡ false → P Ack) → (m ≡ q + 128 → P Answer) → P (heardAfterForward m q a d)
   unfolding heardAfterForward choose
   forward-heard m q a d ack answer =
       by-rules P ((unexpected (forwardTypes q d m) m a, UnexpectedType) ∷ []) Refused (choose (ackType m) Ack Answer) ((λ _. unexpected-type), λ _. tt) (λ passed. value (ackType m) refl passed)
     where
       value : (x : Bool) → ackType m ≡ x → Passed ((unexpected (forwardTypes q d m) m a, UnexpectedType) ∷ []) → P (choose x Ack Answer)
-      value true e passed = ack
+      value true e passed = ack (not-true d (first (not d) (eqb m (q + 128)) (not a) (ne-eqb m (q + 128) (λ z. omega (arith, eqb-true m 0 e))) (rw e at (passed .0))))
       value false e passed = answer (eqb-true m (q + 128) (listed-type (eqb m (q + 128)) (rw e at (passed .0))))
 
   -- after a return: an ACK, or 7

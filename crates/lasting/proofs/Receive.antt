@@ -107,7 +107,7 @@ module _ (c : Coordinator) (t : List Node) (h : fits c t ≡ true) (f : Header) 
   unfolding phaseFits
   taken-forward b q a e =
       forward-heard (λ x. Keeps c t (takenAs x Forward b q c t f p room)) (refused-keeps c t UnexpectedType refl) (f .message) (c .kept .message) (isAck (at t b .mac) p) a
-      (accepted-keeps c t _ (phase-keeps c t h _ (hear-ack-stays c t h b l (ackSession p)) (c .kept) (forwarding b q true) (both _ _ l (both _ _ (carried .requester .listed) (carried .request)))) refl refl)
+      (λ first. accepted-keeps c t _ (phase-keeps c t h _ (hear-ack-stays c t h b l (ackSession p)) (c .kept) (forwarding b q true) (both _ _ l (both _ _ (carried .requester .listed) (carried .request)))) refl refl)
       (λ type. acking-keeps c t h b l room transmits (withPhase (keeping c (keptOf f p)) (ReturnDue q)) refl (phase-keeps c t h _ (hear-stays c t h b l) (keptOf f p) (return-due q) (both _ _ (carried .requester .listed) (kept-response f p (omega (arith, phase-told t (c .kept) (Awaiting b Forward q a) (fits-in c t h e) .1 .message .from)) few))) refl)
     where
       carried : Carried c t b q

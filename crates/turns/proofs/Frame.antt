@@ -1,18 +1,13 @@
 -- What a frame is: a refusal, or work.
-use Prim.Native.Nat.{ℕ, _+_}
+use Prim.Native.Nat.{ℕ}
 use native.Mathlib.Omega.{arith}
 use mathlib.Core.Path.{_≡_, refl, _∙_}
-use mathlib.Core.Logic.{_⊎_, inl, inr}
-use mathlib.Core.Bool.{Bool, true, false, not, _&&_, _||_, false≢true}
-use mathlib.Core.List.{List, [], _∷_}
+use mathlib.Core.Bool.{Bool, true, false}
+use mathlib.Core.List.{List, []}
 use lib.Dec.{eqb, ltb}
-use borrow.Author.Tests.{eqb-true, not-false}
 use Rattle.ground.specs.Choose.{choose}
-use Rattle.ground.proofs.Choices.{and-right, either, neither}
 use Rattle.refusal.specs.Refusal.{Told}
-use Rattle.refusal.specs.declared.Refusal.{Refusal}
 use Rattle.refusal.specs.declared.Refusal.the-variants.{NotAwaited, NoRoom, UnexpectedType, BadEcho, BadMethod}
-use Rattle.refusal.proofs.Rules.{each, by-rules}
 use Rattle.frame.specs.declared.Header.{Header}
 use Rattle.frame.specs.Frame.{headerOf}
 use Rattle.board.specs.declared.Node.{Node}
@@ -23,8 +18,7 @@ use Rattle.board.specs.Change.{heard, renewed, oweAll}
 use Rattle.board.proofs.Counts.{count-owe-all}
 use Rattle.message.specs.Message.{signedFrame, ackCode}
 use Rattle.routing.specs.Route.{routeOf}
-use Rattle.accept.specs.declared.Heard.the-variants.{Ack, Echo, Deliver, Route, Answer, Refused}
-use Rattle.accept.specs.Accept.{ackType, requestType, unexpected, ackSession, heardAfterOffer, heardAfterList, heardAfterForward, heardAfterReturn}
+use Rattle.accept.specs.Accept.{ackSession, heardAfterOffer, heardAfterList, heardAfterForward, heardAfterReturn}
 use Rattle.coordinator.specs.declared.Coordinator.{Coordinator}
 use Rattle.coordinator.specs.declared.Exchange.{Exchange}
 use Rattle.coordinator.specs.declared.Exchange.the-variants.{Offer, List as Listing, Forward, Return}
@@ -37,16 +31,9 @@ use Rattle.coordinator.proofs.Phases.{forwarding, forward-due, return-due}
 use Rattle.coordinator.proofs.Fitting.{Board, awaited}
 use Rattle.steps.specs.After.{refused, accepted, waits, delivers, transmits, rests}
 use Rattle.steps.specs.Receive.{payload, hear, hearAck, keptOf, acking, takenAs, takenIn, receiveRules, receiveIn, receiveOf}
+use Rattle.lasting.proofs.Heard.{offer-heard, list-heard, forward-heard, return-heard}
 use Rattle.turns.specs.Potential.{underWay}
 use Rattle.turns.proofs.Moves.{Moves, refusing, guarded, Plain, plain-rests, plain-delivers, plain-transmits, plain-forward, put-keeps, moved, ended}
-
--- a second ACK in a forward's wait is not taken
-no-second : (m r : ℕ) (x : Bool) → ackType m ≡ true → unexpected ((ackType m && not true) || eqb m (r + 128)) m x ≡ false → ⊥
-no-second m r x e u = go (either (ackType m && false) (eqb m (r + 128)) (not-false _ (neither (not ((ackType m && false) || eqb m (r + 128))) _ u .0)))
-  where
-    go : ((ackType m && false) ≡ true) ⊎ (eqb m (r + 128) ≡ true) → ⊥
-    go (inl q) = false≢true (and-right (ackType m) false q)
-    go (inr q) = omega (arith, eqb-true m 0 e, eqb-true m (r + 128) q)
 
 module _ (c : Coordinator) (t : List Node) (h : fits c t ≡ true) where
   module _ {b q : ℕ} {e : Exchange} {a : Bool} (w : phaseOf (c .stand) ≡ Awaiting b e q a) where
@@ -86,48 +73,37 @@ module _ (c : Coordinator) (t : List Node) (h : fits c t ≡ true) where
       acks-ending plain = acks (withPhase c Resting) (ended c t h (hear t b) says _ w plain hear-listed (λ x. hear-owed))
 
   module _ (b q : ℕ) (a : Bool) (hd : Header) (p : List ℕ) (room : ℕ) where
+    -- a request goes on to its board, or the wait ends
+    routes : phaseOf (c .stand) ≡ Awaiting b Offer q a → (s : Bool) (to : ℕ) → Moves c t (accepted (choose s (withPhase (keeping c (keptOf hd p)) (ForwardDue to b)) (withPhase c Resting)) (hear t b) transmits (signedFrame (c .setup) t b ackCode))
+    unfolding choose underWay
+    routes w true to = moved c t h (keptOf hd p) (hear t b) transmits _ (forward-due to b) plain-transmits (hear-listed w) (rw w (omega arith))
+    routes w false to = ended c t h (hear t b) transmits _ w plain-transmits (hear-listed w) (λ y. hear-owed w)
+
     after-offer : phaseOf (c .stand) ≡ Awaiting b Offer q a → (m d : ℕ) (x : Bool) → Moves c t (takenAs (heardAfterOffer m d x) Offer b q c t hd p room)
-    unfolding heardAfterOffer choose underWay
-    after-offer w m d x = by-rules (λ v. Moves c t (takenAs v Offer b q c t hd p room)) rules Refused _ (each (refusing c t) rules) (λ passed. go (ackType m) (eqb d 0))
-      where
-        rules : List (Bool × Refusal)
-        rules = (unexpected (ackType m || requestType m) m x, UnexpectedType) ∷ (requestType m && ltb 3 d, BadMethod) ∷ []
-
-        routes : (s : Bool) (to : ℕ) → Moves c t (accepted (choose s (withPhase (keeping c (keptOf hd p)) (ForwardDue to b)) (withPhase c Resting)) (hear t b) transmits (signedFrame (c .setup) t b ackCode))
-        routes true to = moved c t h (keptOf hd p) (hear t b) transmits _ (forward-due to b) plain-transmits (hear-listed w) (rw w (omega arith))
-        routes false to = ended c t h (hear t b) transmits _ w plain-transmits (hear-listed w) (λ y. hear-owed w)
-
-        go : (s z : Bool) → Moves c t (takenAs (choose s Ack (choose z Deliver Route)) Offer b q c t hd p room)
-        go true z = ack-ends w (ackSession p) (λ y. let o : _≡_ {A = ℕ} 0 1 = cc in omega arith)
-        go false true = acks-ending w room delivers plain-delivers
-        go false false = acks w room transmits _ (routes (ltb 0 (routeOf t (c .setup .k) b (hd .method) (hd .parameter1))) (routeOf t (c .setup .k) b (hd .method) (hd .parameter1)))
+    after-offer w m d x =
+        offer-heard (λ v. Moves c t (takenAs v Offer b q c t hd p room)) (refusing c t UnexpectedType) m d x (refusing c t BadMethod)
+        (ack-ends w (ackSession p) (λ y. let o : _≡_ {A = ℕ} 0 1 = cc in omega arith))
+        (acks-ending w room delivers plain-delivers)
+        (λ request low high. acks w room transmits _ (routes w (ltb 0 (routeOf t (c .setup .k) b (hd .method) (hd .parameter1))) (routeOf t (c .setup .k) b (hd .method) (hd .parameter1))))
 
     after-list : phaseOf (c .stand) ≡ Awaiting b Listing q a → (m : ℕ) (x : Bool) → Moves c t (takenAs (heardAfterList m x) Listing b q c t hd p room)
-    unfolding heardAfterList
-    after-list w m x = by-rules (λ v. Moves c t (takenAs v Listing b q c t hd p room)) rules Refused Echo (each (refusing c t) rules) (λ passed. acks-ending w room transmits plain-transmits)
-      where
-        rules : List (Bool × Refusal)
-        rules = (not (eqb m 148), UnexpectedType) ∷ (not x, BadEcho) ∷ []
+    after-list w m x = list-heard (λ v. Moves c t (takenAs v Listing b q c t hd p room)) (refusing c t UnexpectedType) m x (refusing c t BadEcho) (acks-ending w room transmits plain-transmits)
+
+    -- the first ACK, or the response
+    first-ack : phaseOf (c .stand) ≡ Awaiting b Forward q a → a ≡ false → Moves c t (accepted (withPhase c (Awaiting b Forward q true)) (hearAck t b (ackSession p)) (waits b Forward) [])
+    unfolding underWay
+    first-ack w e = moved c t h (c .kept) (hearAck t b (ackSession p)) (waits b Forward) [] (forwarding b q true) (plain-forward b) (ack-listed w (ackSession p)) (rw (w, e) (omega arith))
+
+    answered : (d : Bool) → phaseOf (c .stand) ≡ Awaiting b Forward q d → Moves c t (accepted (withPhase (keeping c (keptOf hd p)) (ReturnDue q)) (hear t b) transmits (signedFrame (c .setup) t b ackCode))
+    unfolding underWay
+    answered true w = moved c t h (keptOf hd p) (hear t b) transmits _ (return-due q) plain-transmits (hear-listed w) (rw w (omega arith))
+    answered false w = moved c t h (keptOf hd p) (hear t b) transmits _ (return-due q) plain-transmits (hear-listed w) (rw w (omega arith))
 
     after-forward : phaseOf (c .stand) ≡ Awaiting b Forward q a → (m r : ℕ) (x : Bool) → Moves c t (takenAs (heardAfterForward m r x a) Forward b q c t hd p room)
-    unfolding heardAfterForward choose underWay
-    after-forward w m r x = by-rules (λ v. Moves c t (takenAs v Forward b q c t hd p room)) rules Refused _ (each (refusing c t) rules) (λ passed. go a w (ackType m) refl (passed .0))
-      where
-        rules : List (Bool × Refusal)
-        rules = (unexpected ((ackType m && not a) || eqb m (r + 128)) m x, UnexpectedType) ∷ []
-
-        go : (d : Bool) → phaseOf (c .stand) ≡ Awaiting b Forward q d → (s : Bool) → ackType m ≡ s → unexpected ((ackType m && not d) || eqb m (r + 128)) m x ≡ false → Moves c t (takenAs (choose s Ack Answer) Forward b q c t hd p room)
-        go true v true y u = absurd (no-second m r x y u)
-        go false v true y u = moved c t h (c .kept) (hearAck t b (ackSession p)) (waits b Forward) [] (forwarding b q true) (plain-forward b) (ack-listed v (ackSession p)) (rw v (omega arith))
-        go true v false y u = acks v room transmits _ (moved c t h (keptOf hd p) (hear t b) transmits _ (return-due q) plain-transmits (hear-listed v) (rw v (omega arith)))
-        go false v false y u = acks v room transmits _ (moved c t h (keptOf hd p) (hear t b) transmits _ (return-due q) plain-transmits (hear-listed v) (rw v (omega arith)))
+    after-forward w m r x = forward-heard (λ v. Moves c t (takenAs v Forward b q c t hd p room)) (refusing c t UnexpectedType) m r x a (first-ack w) (λ type. acks w room transmits _ (answered a w))
 
     after-return : phaseOf (c .stand) ≡ Awaiting b Return q a → (m : ℕ) (x : Bool) → Moves c t (takenAs (heardAfterReturn m x) Return b q c t hd p room)
-    unfolding heardAfterReturn
-    after-return w m x = by-rules (λ v. Moves c t (takenAs v Return b q c t hd p room)) rules Refused Ack (each (refusing c t) rules) (λ passed. ack-ends w (ackSession p) (λ y. let o : _≡_ {A = ℕ} 0 1 = cc in omega arith))
-      where
-        rules : List (Bool × Refusal)
-        rules = (unexpected (ackType m) m x, UnexpectedType) ∷ []
+    after-return w m x = return-heard (λ v. Moves c t (takenAs v Return b q c t hd p room)) (refusing c t UnexpectedType) m x (ack-ends w (ackSession p) (λ y. let o : _≡_ {A = ℕ} 0 1 = cc in omega arith))
 
   value-moves : (hd : Header) (p : List ℕ) (room : ℕ) (phase : Phase) → phaseOf (c .stand) ≡ phase → Moves c t (takenIn phase c t hd p room)
   value-moves hd p room Resting w = refusing c t NotAwaited
