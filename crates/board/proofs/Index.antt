@@ -1,5 +1,5 @@
 -- A board's index among the boards of its kind.
-use Prim.Native.Nat.{ℕ, _-_, _<_}
+use Prim.Native.Nat.{ℕ, _-_, _≤_, _<_}
 use native.Mathlib.Omega.{arith}
 use mathlib.Core.Path.{_≡_, refl, sym, _∙_, ap}
 use mathlib.Core.List.{List}
@@ -8,13 +8,13 @@ use lib.ListN.{getD, length}
 use lib.Dec.{eqb, ltb}
 use borrow.Author.Tests.{eq-eqb, ltb-true, ltb-false}
 use Rattle.ground.proofs.Choices.{both}
-use Rattle.ground.proofs.Loops.{count-no, count-past}
+use Rattle.ground.proofs.Loops.{count-le, count-no, count-past}
 use Rattle.board.specs.declared.Node.{Node}
 use Rattle.board.specs.declared.Wanted.the-variants.{Kind}
 use Rattle.board.specs.Node.{none}
 use Rattle.board.specs.Table.{at, listedAt}
 use Rattle.board.specs.Wanted.{wantedAt, ofKindBelow, indexOf}
-use Rattle.board.proofs.Positions.{at-position, listed-within}
+use Rattle.board.proofs.Positions.{at-position, at-past, listed-within}
 
 -- no listed board is of kind 0
 pub of-kind-none : (t : List Node) (p : ℕ) → ofKindBelow t 0 p ≡ 0
@@ -33,6 +33,15 @@ index-nobody t p e = rw e (sym (of-kind-none t p))
 pub index-here : (t : List Node) (p r : ℕ) → r ≡ ofKindBelow t (getD t (p - 1) none .kind) p → 0 < p → r ≡ indexOf t p
 unfolding indexOf
 index-here t p r e h = e ∙ ap (λ (n : Node). ofKindBelow t (n .kind) p) (sym (at-position t p h))
+
+-- in a table of forty records an index is at most 40, so that it fits a byte
+pub index-within : (t : List Node) (p : ℕ) → length t ≡ 40 → indexOf t p ≤ 40
+unfolding indexOf
+index-within t p e = go (ltb 40 p) refl
+  where
+    go : (b : Bool) → ltb 40 p ≡ b → ofKindBelow t (at t p .kind) p ≤ 40
+    go true l = omega (arith, index-nobody t p (ap (λ (n : Node). n .kind) (at-past t p 40 e (ltb-true 40 p l))))
+    go false l = omega (arith, count-le (wantedAt (Kind (at t p .kind)) t) p, ltb-false 40 p l)
 
 -- a listed board is one of its own kind
 own-kind : (t : List Node) (p : ℕ) → listedAt t p ≡ true → wantedAt (Kind (at t p .kind)) t p ≡ true

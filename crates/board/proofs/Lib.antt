@@ -4,3 +4,4 @@ pub mod Index
 pub mod NextListed
 pub mod Changes
 pub mod Unique
+pub mod Counts

@@ -38,6 +38,10 @@ ofKindBelow t k p = count (wantedAt (Kind k) t) p
 unfoldable pub indexOf : List Node → ℕ → ℕ
 indexOf t p = ofKindBelow t (at t p .kind) p
 
+-- how many positions are wanted
+unfoldable pub countOf : Wanted → List Node → ℕ
+countOf w t = count (wantedAt w t) 41
+
 -- somebody is listed (01, "until an offer is made or nobody is listed")
 unfoldable pub someListed : List Node → Bool
 someListed t = some (listedAt t) 41

@@ -19,16 +19,17 @@ use Rattle.frame.specs.declared.Header.{Header}
 use Rattle.frame.specs.Frame.{byte, fields, headerOf, lengthByte, readRules, reading, payloadOf, body, frameOf, settled}
 use Rattle.frame.proofs.Told.{Whole, whole}
 
-module _ (h : Header) (p : List ℕ) (small : length p ≤ 240) where
-  long : length (frameOf h p) ≡ 12 + length p
-  unfolding frameOf
-  long = simp length-append (omega arith)
+-- a frame has twelve bytes more than its payload
+pub long : (h : Header) (p : List ℕ) → length (frameOf h p) ≡ 12 + length p
+unfolding frameOf
+long h p = simp length-append (omega arith)
 
+module _ (h : Header) (p : List ℕ) (small : length p ≤ 240) where
   written-passes : Passed (readRules (frameOf h p))
   unfolding frameOf
   written-passes = (
-    le-ltb (length (frameOf h p)) 12 (omega (arith, long)),
-    (le-ltb _ _ small, (not-no _ (eq-eqb _ _ long), (not-no _ (checked-good (body h p)), tt))),
+    le-ltb (length (frameOf h p)) 12 (omega (arith, long h p)),
+    (le-ltb _ _ small, (not-no _ (eq-eqb _ _ (long h p)), (not-no _ (checked-good (body h p)), tt))),
   )
 
   -- what is written reads back as the same fields and the same payload length

@@ -65,6 +65,10 @@ pub either : (a b : Bool) → (a || b) ≡ true → (a ≡ true) ⊎ (b ≡ true
 either true b h = inl refl
 either false b h = inr h
 
+pub neither : (a b : Bool) → (a || b) ≡ false → (a ≡ false) × (b ≡ false)
+neither true b h = absurd (false≢true (sym h))
+neither false b h = (refl, h)
+
 pub not-yes : (b : Bool) → b ≡ false → not b ≡ true
 not-yes b h = rw h refl
 

@@ -1,12 +1,15 @@
 -- A loop that copies a list over a part of another, and bytes laid at a front.
-use Prim.Native.Nat.{ℕ, zero, suc, _+_, _-_, _≤_, _<_}
+use Prim.Native.Nat.{ℕ, zero, suc, _+_, _-_, _≤_, _<_, min}
 use native.Mathlib.Omega.{arith}
 use native.Mathlib.Numerals.{add-one}
 use mathlib.Core.Path.{_≡_, refl, sym, ap, _∙_}
+use mathlib.Core.Bool.{Bool, true, false}
 use mathlib.Core.List.{List, [], _∷_, _++_}
 use lib.ListN.{length, getD, set, take, drop, length-append}
-use lib.Seq.{paste, paste-zero, paste-suc, take-length, take-at, drop-append-add, drop-drop}
+use lib.Seq.{paste, paste-zero, paste-suc, take-length, take-all, take-at, drop-append-add, drop-drop}
+use lib.Dec.{ltb}
 use borrow.Author.Needs.{needs}
+use borrow.Author.Tests.{ltb-true, ltb-false}
 use Rattle.ground.specs.Bytes.{laid}
 
 pub paste-none : (d : List ℕ) (at : ℕ) (s : List ℕ) → d ≡ paste d at s 0
@@ -33,3 +36,11 @@ laid-more a b o h =
 -- the front of what was laid
 pub taken-laid : (a o : List ℕ) → take (length a) (laid a o) ≡ a
 taken-laid a o = take-at a (drop (length a) o) (length a) refl
+
+-- the front of a list is the same where its length is cut at the length of the whole
+pub front-cut : (a : List ℕ) (m n k : ℕ) → length a ≡ k → m ≡ min n k → take m a ≡ take n a
+front-cut a m n k l e = go (ltb k n) refl
+  where
+    go : (b : Bool) → ltb k n ≡ b → take m a ≡ take n a
+    go true h = take-all m a (omega (arith, ltb-true k n h)) ∙ sym (take-all n a (omega (arith, ltb-true k n h)))
+    go false h = ap (λ (x : ℕ). take x a) (let q : m ≡ n = omega (arith, ltb-false k n h) in q)

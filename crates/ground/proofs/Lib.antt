@@ -1,5 +1,6 @@
 pub mod Choices
 pub mod Loops
+pub mod Counts
 pub mod Firsts
 pub mod Runs
 pub mod Highest

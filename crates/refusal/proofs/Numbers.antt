@@ -9,12 +9,12 @@ use Rattle.refusal.specs.declared.Refusal.{Refusal}
 use Rattle.refusal.specs.declared.Refusal.the-variants.{Short, OverLong, LengthMismatch, BadChecksum, NotForUs, NotAwaited, UnexpectedType, BadEcho, BadMethod, PayloadTooLong, NoRoom, BadType, BadMac, Busy, Held, Full, AddressClash, AwaitingReply, NobodyListed, NotWaiting, BadPool, StateUnfit}
 
 -- the refusals in the order of their numbers
-listed : List Refusal
+pub listed : List Refusal
 listed =
     Short ∷ OverLong ∷ LengthMismatch ∷ BadChecksum ∷ NotForUs ∷ NotAwaited ∷ UnexpectedType ∷ BadEcho ∷ BadMethod ∷ PayloadTooLong ∷ NoRoom ∷ BadType ∷ BadMac ∷ Busy ∷ Held ∷ Full ∷ AddressClash ∷ AwaitingReply ∷ NobodyListed ∷ NotWaiting ∷ BadPool ∷ StateUnfit ∷ []
 
 -- a refusal stands in that list where its number says
-placed : (r : Refusal) → getD listed (numberOf r - 1) Short ≡ r
+pub placed : (r : Refusal) → getD listed (numberOf r - 1) Short ≡ r
 unfolding listed
 placed Short = refl
 placed OverLong = refl

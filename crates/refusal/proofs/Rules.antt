@@ -1,6 +1,7 @@
 -- What an answer by rules says of the rules.
 use Prim.Native.Nat.{ℕ}
 use mathlib.Core.Path.{_≡_, refl, sym, ap, _∙_}
+use mathlib.Core.Logic.{_↔_}
 use mathlib.Core.Bool.{Bool, true, false}
 use mathlib.Core.List.{List, [], _∷_}
 use Rattle.ground.specs.Choose.{choose}
@@ -29,6 +30,16 @@ gave (rule ∷ rules) us vs h = go (gave rules us vs) (rule .0) refl h
     go rest true e q = absurd (not-zero (rule .1) (ap (λ (t : Told). t .number) q))
     go rest false e q = ((e, rest q .0), rest q .1)
 
+-- an answer from which a 0 is read that is read off no refusal passed every rule
+pub unrefused {ℓ} : {A : Type ℓ} (g : A → ℕ) (rules : List (Bool × Refusal)) (f : Refusal → A) (v : A) → ((q : Refusal) → g (f q) ≡ 0 → ⊥) → g (ruled rules f v) ≡ 0 → Passed rules
+unfolding choose
+unrefused g [] f v n h = tt
+unrefused g (rule ∷ rules) f v n h = go (unrefused g rules f v n) (rule .0) refl h
+  where
+    go : (g (ruled rules f v) ≡ 0 → Passed rules) → (b : Bool) → rule .0 ≡ b → g (choose b (f (rule .1)) (ruled rules f v)) ≡ 0 → Passed (rule ∷ rules)
+    go rest true e q = absurd (n (rule .1) q)
+    go rest false e q = (e, rest q)
+
 -- an answer that refuses does so for anything that the same rules guard
 pub refused {ℓ} : {A : Type ℓ} (rules : List (Bool × Refusal)) (us : List ℕ) (f : Refusal → A) (v : A) (q : Refusal) → ruled rules refuses (gives us) ≡ refuses q → ruled rules f v ≡ f q
 unfolding choose
@@ -38,3 +49,82 @@ refused (rule ∷ rules) us f v q h = go (refused rules us f v q) (rule .0) h
     go : (ruled rules refuses (gives us) ≡ refuses q → ruled rules f v ≡ f q) → (b : Bool) → choose b (refuses (rule .1)) (ruled rules refuses (gives us)) ≡ refuses q → choose b (f (rule .1)) (ruled rules f v) ≡ f q
     go rest true e = ap f (same-refused (rule .1) q e)
     go rest false e = rest e
+
+-- what is read off an answer by rules is ruled by the same rules
+pub ruled-through {ℓ κ} : {A : Type ℓ} {B : Type κ} (g : A → B) (rules : List (Bool × Refusal)) (f : Refusal → A) (v : A) → g (ruled rules f v) ≡ ruled rules (λ r. g (f r)) (g v)
+unfolding choose
+ruled-through g [] f v = refl
+ruled-through g (rule ∷ rules) f v = go (rule .0) (ruled-through g rules f v)
+  where
+    go : (b : Bool) → g (ruled rules f v) ≡ ruled rules (λ r. g (f r)) (g v) → g (choose b (f (rule .1)) (ruled rules f v)) ≡ choose b (g (f (rule .1))) (ruled rules (λ r. g (f r)) (g v))
+    go true e = refl
+    go false e = e
+
+-- no rule says this refusal
+abbrev pub Unsaid : List (Bool × Refusal) → Refusal → Type 0
+Unsaid [] q = Unit {0}
+Unsaid (rule ∷ rules) q = (rule .1 ≡ q → ⊥) × Unsaid rules q
+
+-- when a number is given, where refusing tells the refusals apart and the value is no refusal
+module _ {ℓ} {A : Type ℓ} (f : Refusal → A) (v : A) (apart : (r q : Refusal) → f r ≡ f q → r ≡ q) (value : (q : Refusal) → v ≡ f q → ⊥) where
+  -- never where no rule says it
+  pub refused-not : (rules : List (Bool × Refusal)) (q : Refusal) → Unsaid rules q → ruled rules f v ≡ f q → ⊥
+  unfolding choose
+  refused-not [] q u e = value q e
+  refused-not (rule ∷ rules) q u e = go (rule .0) (refused-not rules q (u .1)) e
+    where
+      go : (b : Bool) → (ruled rules f v ≡ f q → ⊥) → choose b (f (rule .1)) (ruled rules f v) ≡ f q → ⊥
+      go true rest h = u .0 (apart (rule .1) q h)
+      go false rest h = rest h
+
+  -- that of the first rule, where no other says it: exactly when the rule holds
+  pub refused-first : (b : Bool) (r : Refusal) (rules : List (Bool × Refusal)) → Unsaid rules r → (ruled ((b, r) ∷ rules) f v ≡ f r) ↔ (b ≡ true)
+  unfolding choose
+  refused-first b r rules u = (only b, λ e. rw e refl)
+    where
+      only : (b : Bool) → choose b (f r) (ruled rules f v) ≡ f r → b ≡ true
+      only true h = refl
+      only false h = absurd (refused-not rules r u h)
+
+  -- any other: exactly when the first rule does not hold and the later rules give it
+  pub refused-later : (b : Bool) (r : Refusal) (rules : List (Bool × Refusal)) (q : Refusal) → (r ≡ q → ⊥) → (ruled ((b, r) ∷ rules) f v ≡ f q) ↔ ((b ≡ false) × (ruled rules f v ≡ f q))
+  unfolding choose
+  refused-later b r rules q differ = (only b, λ h. rw (h .0) (h .1))
+    where
+      only : (b : Bool) → choose b (f r) (ruled rules f v) ≡ f q → (b ≡ false) × (ruled rules f v ≡ f q)
+      only true h = absurd (differ (apart r q h))
+      only false h = (refl, h)
+
+-- nothing is refused exactly when no rule holds, in any reading of that which fits the value and no refusal
+module _ {ℓ κ} {A : Type ℓ} (Accepted : A → Type κ) (f : Refusal → A) (v : A) (value : Accepted v) (never : (q : Refusal) → Accepted (f q) → ⊥) where
+  only-passed : (rules : List (Bool × Refusal)) → Accepted (ruled rules f v) → Passed rules
+  unfolding choose
+  only-passed [] h = tt
+  only-passed (rule ∷ rules) h = go (rule .0) refl (only-passed rules) h
+    where
+      go : (b : Bool) → rule .0 ≡ b → (Accepted (ruled rules f v) → Passed rules) → Accepted (choose b (f (rule .1)) (ruled rules f v)) → Passed (rule ∷ rules)
+      go true e rest h = absurd (never (rule .1) h)
+      go false e rest h = (e, rest h)
+
+  pub accepted-exactly : (rules : List (Bool × Refusal)) → Accepted (ruled rules f v) ↔ Passed rules
+  accepted-exactly rules = (only-passed rules, λ h. rw (passed rules f v h) value)
+
+-- what holds of each refusal that a rule says, where it holds and those before it do not
+abbrev pub Each {ℓ} : (Refusal → Type ℓ) → List (Bool × Refusal) → Type ℓ
+Each Q [] = Unit
+Each Q (rule ∷ rules) = (rule .0 ≡ true → Q (rule .1)) × (rule .0 ≡ false → Each Q rules)
+
+-- what holds of every refusal
+pub each {ℓ} : {Q : Refusal → Type ℓ} → ((r : Refusal) → Q r) → (rules : List (Bool × Refusal)) → Each Q rules
+each q [] = tt
+each q (rule ∷ rules) = ((λ h. q (rule .1)), (λ h. each q rules))
+
+-- what holds of each of them, and of the value where no rule holds, holds of whatever the rules give
+pub by-rules {ℓ κ} : {A : Type ℓ} (P : A → Type κ) (rules : List (Bool × Refusal)) (f : Refusal → A) (v : A) → Each (λ r. P (f r)) rules → (Passed rules → P v) → P (ruled rules f v)
+unfolding choose
+by-rules P [] f v e h = h tt
+by-rules P (rule ∷ rules) f v e h = go (by-rules P rules f v) (rule .0) refl
+  where
+    go : (Each (λ r. P (f r)) rules → (Passed rules → P v) → P (ruled rules f v)) → (b : Bool) → rule .0 ≡ b → P (choose b (f (rule .1)) (ruled rules f v))
+    go rest true q = e .0 q
+    go rest false q = rest (e .1 q) (λ passed. h (q, passed))

@@ -1,0 +1,6 @@
+pub mod Cases
+pub mod Told
+pub mod Exactly
+pub mod Accepted
+pub mod Acks
+pub mod Unique

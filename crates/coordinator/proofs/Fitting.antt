@@ -1,0 +1,285 @@
+-- The test of fit decides what fit means, its parts by name, and what it says of the boards that a phase names.
+use Prim.Native.Nat.{ℕ, _≤_, _<_}
+use native.Mathlib.Omega.{arith}
+use mathlib.Core.Path.{_≡_, refl, sym, _∙_}
+use mathlib.Core.Logic.{_⊎_, inl, inr}
+use mathlib.Core.Bool.{Bool, true, false, _&&_, _||_, false≢true}
+use mathlib.Core.List.{List}
+use lib.Dec.{eqb, leb, ltb}
+use lib.ListN.{length}
+use borrow.Author.Tests.{eqb-true, eqb-false, not-true, ltb-true, leb-true, le-ltb, lt-ltb, le-leb, eq-eqb, ne-eqb}
+use Rattle.ground.proofs.Choices.{and-left, and-right, both, or-left, or-right, either, not-yes}
+use Rattle.ground.proofs.Loops.{some-of}
+use Rattle.ground.proofs.Firsts.{FirstCase}
+use Rattle.board.specs.declared.Node.{Node}
+use Rattle.board.specs.declared.Wanted.the-variants.{Listed as ListedOnes}
+use Rattle.board.specs.Table.{at, listedAt}
+use Rattle.board.specs.Wanted.{lowestOf, someListed}
+use Rattle.board.proofs.Positions.{listed-within}
+use Rattle.board.proofs.LowestWanted.{lowest-case, some-lowest}
+use Rattle.setup.specs.Setup.{setupFits}
+use Rattle.setup.specs.Fit.{tableFits}
+use Rattle.setup.specs.Fitness.{Position, Listed}
+use Rattle.setup.proofs.Pools.{setup-told, setup-passes}
+use Rattle.setup.proofs.Tables.{table-told, table-passes}
+use Rattle.coordinator.specs.declared.Exchange.{Exchange}
+use Rattle.coordinator.specs.declared.Exchange.the-variants.{Offer, List as Listing, Forward, Return}
+use Rattle.coordinator.specs.declared.Phase.{Phase}
+use Rattle.coordinator.specs.declared.Phase.the-variants.{Resting, Awaiting, ForwardDue, ReturnDue, Unknown}
+use Rattle.coordinator.specs.declared.Kept.{Kept}
+use Rattle.coordinator.specs.declared.Coordinator.{Coordinator}
+use Rattle.coordinator.specs.Phase.{phaseOf}
+use Rattle.coordinator.specs.Fit.{isRequest, isResponse, phaseFits, holdFits, fits}
+use Rattle.coordinator.specs.Fitness.{Request, Response, Names, KeptFor, SomeoneListed, Fit}
+use Rattle.coordinator.proofs.Phases.{Made, phase-made, phase-known, known-stage}
+
+-- a listed position, as a test and as a fact
+
+pub listed-told : (t : List Node) (p : ℕ) → listedAt t p ≡ true → Listed t p
+listed-told t p h = eqb-false (at t p .kind) 0 (not-true (eqb (at t p .kind) 0) h)
+
+pub listed-passes : (t : List Node) (p : ℕ) → Listed t p → listedAt t p ≡ true
+listed-passes t p l = not-yes (eqb (at t p .kind) 0) (ne-eqb (at t p .kind) 0 l)
+
+-- a listed position makes somebody listed
+pub listed-some : (t : List Node) (p : ℕ) → length t ≡ 40 → listedAt t p ≡ true → someListed t ≡ true
+unfolding someListed
+listed-some t p e h = some-of (listedAt t) 41 p (omega (arith, listed-within t p e h .1)) h
+
+pub none-listed : (t : List Node) (p : ℕ) → length t ≡ 40 → someListed t ≡ false → listedAt t p ≡ false
+none-listed t p e h = go (listedAt t p) refl
+  where
+    go : (b : Bool) → listedAt t p ≡ b → listedAt t p ≡ false
+    go true l = absurd (false≢true (sym h ∙ listed-some t p e l))
+    go false l = l
+
+-- where somebody is listed, the lowest listed position is one
+pub some-listed : (t : List Node) → someListed t ≡ true → listedAt t (lowestOf t ListedOnes 40) ≡ true
+some-listed t h = go (lowest-case t ListedOnes 40)
+  where
+    go : FirstCase 0 (listedAt t) 1 40 (lowestOf t ListedOnes 40) → listedAt t (lowestOf t ListedOnes 40) ≡ true
+    go (inl (none, zeroed)) = absurd (false≢true (sym (le-ltb 0 (lowestOf t ListedOnes 40) (omega arith)) ∙ some-lowest t ∙ h))
+    go (inr f) = f .passes
+
+-- what is kept
+
+pub request-told : (m : Kept) → isRequest m ≡ true → Request m
+request-told m h =
+    record {
+      message = record { from = ltb-true 0 (m .message) (and-left (ltb 0 (m .message)) _ h3); upTo = omega (arith, ltb-true (m .message) 128 (and-right (ltb 0 (m .message)) _ h3)) };
+      method = record { from = ltb-true 0 (m .method) (and-right (ltb 0 (m .message) && ltb (m .message) 128) _ h2); upTo = leb-true (m .method) 3 (and-right (ltb 0 (m .message) && ltb (m .message) 128 && ltb 0 (m .method)) _ h1) };
+      payload = leb-true (m .length) 240 (and-right (ltb 0 (m .message) && ltb (m .message) 128 && ltb 0 (m .method) && leb (m .method) 3) _ h);
+    }
+  where
+    h1 : (ltb 0 (m .message) && ltb (m .message) 128 && ltb 0 (m .method) && leb (m .method) 3) ≡ true
+    h1 = and-left _ (leb (m .length) 240) h
+
+    h2 : (ltb 0 (m .message) && ltb (m .message) 128 && ltb 0 (m .method)) ≡ true
+    h2 = and-left _ (leb (m .method) 3) h1
+
+    h3 : (ltb 0 (m .message) && ltb (m .message) 128) ≡ true
+    h3 = and-left _ (ltb 0 (m .method)) h2
+
+pub request-passes : (m : Kept) → Request m → isRequest m ≡ true
+request-passes m f = both _ _ (both _ _ (both _ _ (both _ _ (lt-ltb 0 (m .message) (f .message .from)) (lt-ltb (m .message) 128 (omega (arith, f .message .upTo)))) (lt-ltb 0 (m .method) (f .method .from))) (le-leb (m .method) 3 (f .method .upTo))) (le-leb (m .length) 240 (f .payload))
+
+pub response-told : (m : Kept) → isResponse m ≡ true → Response m
+response-told m h = record { message = ltb-true 128 (m .message) (and-left (ltb 128 (m .message)) _ h); payload = leb-true (m .length) 240 (and-right (ltb 128 (m .message)) _ h) }
+
+pub response-passes : (m : Kept) → Response m → isResponse m ≡ true
+response-passes m f = both _ _ (lt-ltb 128 (m .message) (f .message)) (le-leb (m .length) 240 (f .payload))
+
+-- the phase: the boards that it names are listed, and what it needs is kept
+
+module _ (t : List Node) where
+  one-board : (b : ℕ) → listedAt t b ≡ true → (p : ℕ) → p ≡ b → Listed t p
+  one-board b h p e = rw e (listed-told t b h)
+
+  two-boards : (b q : ℕ) → listedAt t b ≡ true → listedAt t q ≡ true → (p : ℕ) → (p ≡ b) ⊎ (p ≡ q) → Listed t p
+  two-boards b q h i p (inl e) = one-board b h p e
+  two-boards b q h i p (inr e) = one-board q i p e
+
+  -- a wait that asks for nothing more than its board
+  plain-told : (b : ℕ) → (listedAt t b && true) ≡ true → ((p : ℕ) → p ≡ b → Listed t p) × Unit {0}
+  plain-told b h = (one-board b (and-left (listedAt t b) true h), tt)
+
+  plain-passes : (b : ℕ) → ((p : ℕ) → p ≡ b → Listed t p) → (listedAt t b && true) ≡ true
+  plain-passes b n = both _ _ (listed-passes t b (n b refl)) refl
+
+  module _ (m : Kept) where
+    forward-told : (b q : ℕ) → (listedAt t b && (listedAt t q && isRequest m)) ≡ true → ((p : ℕ) → (p ≡ b) ⊎ (p ≡ q) → Listed t p) × Request m
+    forward-told b q h = (two-boards b q (and-left (listedAt t b) _ h) (and-left (listedAt t q) _ rest), request-told m (and-right (listedAt t q) _ rest))
+      where
+        rest : (listedAt t q && isRequest m) ≡ true
+        rest = and-right (listedAt t b) _ h
+
+    forward-passes : (b q : ℕ) → ((p : ℕ) → (p ≡ b) ⊎ (p ≡ q) → Listed t p) → Request m → (listedAt t b && (listedAt t q && isRequest m)) ≡ true
+    forward-passes b q n f = both _ _ (listed-passes t b (n b (inl refl))) (both _ _ (listed-passes t q (n q (inr refl))) (request-passes m f))
+
+    pub phase-told : (p : Phase) → phaseFits p t m ≡ true → ((q : ℕ) → Names p q → Listed t q) × KeptFor p m
+    unfolding phaseFits
+    phase-told Resting h = ((λ q n. absurd n), tt)
+    phase-told (Awaiting b Offer q a) h = plain-told b h
+    phase-told (Awaiting b Listing q a) h = plain-told b h
+    phase-told (Awaiting b Forward q a) h = forward-told b q h
+    phase-told (Awaiting b Return q a) h = plain-told b h
+    phase-told (ForwardDue b q) h = forward-told b q h
+    phase-told (ReturnDue b) h = (one-board b (and-left (listedAt t b) (isResponse m) h), response-told m (and-right (listedAt t b) (isResponse m) h))
+    phase-told Unknown h = absurd (false≢true h)
+
+    pub phase-passes : (p : Phase) → (p ≡ Unknown → ⊥) → ((q : ℕ) → Names p q → Listed t q) → KeptFor p m → phaseFits p t m ≡ true
+    unfolding phaseFits
+    phase-passes Resting u n f = refl
+    phase-passes (Awaiting b Offer q a) u n f = plain-passes b n
+    phase-passes (Awaiting b Listing q a) u n f = plain-passes b n
+    phase-passes (Awaiting b Forward q a) u n f = forward-passes b q n f
+    phase-passes (Awaiting b Return q a) u n f = plain-passes b n
+    phase-passes (ForwardDue b q) u n f = forward-passes b q n f
+    phase-passes (ReturnDue b) u n f = both _ _ (listed-passes t b (n b refl)) (response-passes m f)
+    phase-passes Unknown u n f = absurd (u refl)
+
+-- the hold
+
+hold-told : (held : ℕ) (t : List Node) → holdFits held t ≡ true → (held ≡ 0) ⊎ ((held ≡ 1) × SomeoneListed t)
+unfolding holdFits
+hold-told held t h = go (either (eqb held 0) (eqb held 1 && someListed t) h)
+  where
+    go : (eqb held 0 ≡ true) ⊎ ((eqb held 1 && someListed t) ≡ true) → (held ≡ 0) ⊎ ((held ≡ 1) × SomeoneListed t)
+    go (inl e) = inl (eqb-true held 0 e)
+    go (inr e) = inr (eqb-true held 1 (and-left (eqb held 1) (someListed t) e), (lowestOf t ListedOnes 40, listed-told t (lowestOf t ListedOnes 40) (some-listed t (and-right (eqb held 1) (someListed t) e))))
+
+hold-passes : (held : ℕ) (t : List Node) → length t ≡ 40 → (held ≡ 0) ⊎ ((held ≡ 1) × SomeoneListed t) → holdFits held t ≡ true
+unfolding holdFits
+hold-passes held t l (inl e) = or-left (eqb held 0) _ (eq-eqb held 0 e)
+hold-passes held t l (inr (e, (p, h))) = or-right (eqb held 0) _ (both _ _ (eq-eqb held 1 e) (listed-some t p l (listed-passes t p h)))
+
+-- the parts of the test by name
+
+record Parts (a b d e f g : Bool) : Type 0 where
+  forty : a ≡ true
+  setup : b ≡ true
+  table : d ≡ true
+  phase : e ≡ true
+  hold : f ≡ true
+  last : g ≡ true
+
+parts : (a b d e f g : Bool) → (a && (b && (d && (e && (f && g))))) ≡ true → Parts a b d e f g
+parts a b d e f g h = record { forty = and-left a _ h; setup = and-left b _ h1; table = and-left d _ h2; phase = and-left e _ h3; hold = and-left f g h4; last = and-right f g h4 }
+  where
+    h1 : (b && (d && (e && (f && g)))) ≡ true
+    h1 = and-right a _ h
+
+    h2 : (d && (e && (f && g))) ≡ true
+    h2 = and-right b _ h1
+
+    h3 : (e && (f && g)) ≡ true
+    h3 = and-right d _ h2
+
+    h4 : (f && g) ≡ true
+    h4 = and-right e _ h3
+
+module _ (c : Coordinator) (t : List Node) where
+  -- all of them make the whole
+  pub fits-of : length t ≡ 40 → setupFits (c .setup) ≡ true → tableFits (c .setup .k) t ≡ true → phaseFits (phaseOf (c .stand)) t (c .kept) ≡ true → holdFits (c .held) t ≡ true → c .last ≤ c .setup .k → fits c t ≡ true
+  unfolding fits
+  fits-of a b d e f g = both _ _ (eq-eqb (length t) 40 a) (both _ _ b (both _ _ d (both _ _ e (both _ _ f (le-leb (c .last) (c .setup .k) g)))))
+
+  -- what fit means makes the test hold
+  pub fit-passes : Fit c t → fits c t ≡ true
+  fit-passes f = fits-of (f .table .forty) (setup-passes (c .setup) (f .setup)) (table-passes (c .setup .k) t (f .table)) (phase-passes t (c .kept) (phaseOf (c .stand)) (phase-known (c .stand) (f .known)) (f .boards) (f .kept)) (hold-passes (c .held) t (f .table .forty) (f .held)) (f .last)
+
+  module _ (h : fits c t ≡ true) where
+    opened : Parts (eqb (length t) 40) (setupFits (c .setup)) (tableFits (c .setup .k) t) (phaseFits (phaseOf (c .stand)) t (c .kept)) (holdFits (c .held) t) (leb (c .last) (c .setup .k))
+    unfolding fits
+    opened = parts (eqb (length t) 40) (setupFits (c .setup)) (tableFits (c .setup .k) t) (phaseFits (phaseOf (c .stand)) t (c .kept)) (holdFits (c .held) t) (leb (c .last) (c .setup .k)) h
+
+    pub fits-forty : length t ≡ 40
+    fits-forty = eqb-true (length t) 40 (opened .forty)
+
+    pub fits-setup : setupFits (c .setup) ≡ true
+    fits-setup = opened .setup
+
+    pub fits-table : tableFits (c .setup .k) t ≡ true
+    fits-table = opened .table
+
+    pub fits-phase : phaseFits (phaseOf (c .stand)) t (c .kept) ≡ true
+    fits-phase = opened .phase
+
+    pub fits-hold : holdFits (c .held) t ≡ true
+    fits-hold = opened .hold
+
+    pub fits-last : c .last ≤ c .setup .k
+    fits-last = leb-true (c .last) (c .setup .k) (opened .last)
+
+    -- what the test says of the phase, where it is known which
+    pub fits-in : {p : Phase} → phaseOf (c .stand) ≡ p → phaseFits p t (c .kept) ≡ true
+    fits-in e = rw e at fits-phase
+
+    pub fits-known : phaseOf (c .stand) ≡ Unknown → ⊥
+    unfolding phaseFits
+    fits-known e = false≢true (fits-in e)
+
+    -- the test holds only of what fit means
+    pub fit-told : Fit c t
+    fit-told =
+        record {
+          setup = setup-told (c .setup) fits-setup;
+          table = table-told (c .setup .k) t fits-forty fits-table;
+          known = known-stage (c .stand) fits-known;
+          boards = phase-told t (c .kept) (phaseOf (c .stand)) fits-phase .0;
+          kept = phase-told t (c .kept) (phaseOf (c .stand)) fits-phase .1;
+          held = hold-told (c .held) t fits-hold;
+          last = fits-last;
+        }
+
+    -- so the phase is one that a step makes
+    pub fits-made : Made (phaseOf (c .stand))
+    fits-made = phase-made (c .stand) (fit-told .known)
+
+-- p is a listed position, one of 1 to k, and k is at most forty
+pub record Board (c : Coordinator) (t : List Node) (p : ℕ) : Type 0 where
+  pub listed : listedAt t p ≡ true
+  pub from : 1 ≤ p
+  pub upTo : p ≤ c .setup .k
+  pub few : c .setup .k ≤ 40
+
+-- a request is carried to board b for board q
+pub record Carried (c : Coordinator) (t : List Node) (b q : ℕ) : Type 0 where
+  pub board : Board c t b
+  pub requester : Board c t q
+  pub request : isRequest (c .kept) ≡ true
+
+module _ (c : Coordinator) (t : List Node) (h : fits c t ≡ true) where
+  pub board-listed : (p : ℕ) → listedAt t p ≡ true → Board c t p
+  board-listed p l = record { listed = l; from = here .from; upTo = here .upTo; few = fit-told c t h .setup .pool .upTo }
+    where
+      here : Position (c .setup .k) p
+      here = fit-told c t h .table .within p (listed-told t p l)
+
+  -- the boards that the phase names, and what is kept for them
+
+  pub awaited : {b : ℕ} {e : Exchange} {q : ℕ} {a : Bool} → phaseOf (c .stand) ≡ Awaiting b e q a → Board c t b
+  unfolding phaseFits
+  awaited {b} w = board-listed b (and-left (listedAt t b) _ (fits-in c t h w))
+
+  carried : (b q : ℕ) → (listedAt t b && (listedAt t q && isRequest (c .kept))) ≡ true → Carried c t b q
+  carried b q e = record { board = board-listed b (and-left (listedAt t b) _ e); requester = board-listed q (and-left (listedAt t q) _ rest); request = and-right (listedAt t q) _ rest }
+    where
+      rest : (listedAt t q && isRequest (c .kept)) ≡ true
+      rest = and-right (listedAt t b) _ e
+
+  pub awaited-forward : {b q : ℕ} {a : Bool} → phaseOf (c .stand) ≡ Awaiting b Forward q a → Carried c t b q
+  unfolding phaseFits
+  awaited-forward {b} {q} w = carried b q (fits-in c t h w)
+
+  pub due-forward : {b q : ℕ} → phaseOf (c .stand) ≡ ForwardDue b q → Carried c t b q
+  unfolding phaseFits
+  due-forward {b} {q} w = carried b q (fits-in c t h w)
+
+  pub due-return : {b : ℕ} → phaseOf (c .stand) ≡ ReturnDue b → Board c t b
+  unfolding phaseFits
+  due-return {b} w = board-listed b (and-left (listedAt t b) _ (fits-in c t h w))
+
+  pub due-response : {b : ℕ} → phaseOf (c .stand) ≡ ReturnDue b → isResponse (c .kept) ≡ true
+  unfolding phaseFits
+  due-response {b} w = and-right (listedAt t b) _ (fits-in c t h w)

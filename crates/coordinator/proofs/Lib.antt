@@ -1,0 +1,5 @@
+pub mod Phases
+pub mod Fitting
+pub mod Changing
+pub mod Starting
+pub mod Unique

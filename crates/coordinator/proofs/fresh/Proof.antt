@@ -1,0 +1,17 @@
+-- `coordinator::fresh` meets its contract: what the calls gave.
+use mathlib.Core.Path.{refl}
+use borrow.Author.Needs.{needs}
+use Rattle.coordinator.proofs.fresh.Statement.{statement}
+use Rattle.coordinator.proofs.fresh.Tie as tie
+
+stand-of-requires : tie.Need-stand-of-requires
+stand-of-requires c κs = search needs
+
+blank-kept-requires : tie.Need-blank-kept-requires
+blank-kept-requires c κs = search needs
+
+returns : tie.Need-returns
+returns c = rw (c .before .stand-of .ensures, c .blank-kept .ensures) refl
+
+pub fresh-spec : {M : Type 1} → statement M
+fresh-spec = tie.close (tie.spec stand-of-requires blank-kept-requires returns)

@@ -1,0 +1,5 @@
+pub mod Phase
+pub mod Fit
+pub mod Fitness
+pub mod Fresh
+pub mod Change

@@ -1,0 +1,70 @@
+-- `join::join` meets its contract: a verdict that refuses refuses the step, and one that does not leaves what the rules say.
+use mathlib.Core.Path.{ap, sym, _∙_}
+use borrow.Author.Needs.{needs}
+use Rattle.board.specs.Table.{put}
+use Rattle.board.specs.Change.{oweAll}
+use Rattle.setup.specs.Setup.{toldOf}
+use Rattle.steps.specs.After.{shows, rests}
+use Rattle.join.proofs.Verdict.{join-taken, join-refused}
+use Rattle.join.proofs.join.Statement.{statement}
+use Rattle.join.proofs.join.Tie as tie
+
+judge-join-requires : tie.Need-judge-join-requires
+judge-join-requires c κs = search needs
+
+enum-known-judged : tie.Need-enum-known-judged
+enum-known-judged c = search needs
+
+refusing-requires : tie.Need-refusing-requires
+refusing-requires c κs = search needs
+
+enum-told : tie.Need-enum-told
+enum-told c = search needs
+
+chosen-requires : tie.Need-chosen-requires
+chosen-requires c κs = search needs
+
+joining-requires : tie.Need-joining-requires
+joining-requires c κs = search needs
+
+holding-requires : tie.Need-holding-requires
+holding-requires c κs = search needs
+
+put-at-requires : tie.Need-put-at-requires
+put-at-requires c κs = search needs
+
+owe-all-requires : tie.Need-owe-all-requires
+owe-all-requires c κs = search needs
+
+returns : tie.Need-returns
+returns c =
+    c .refusing .ensures ∙
+    sym (ap shows (join-refused (c .before .before .before .before .before .args .coordinator) (c .before .before .before .before .before .args .table .nodes) (c .before .before .before .before .before .args .kind) (c .before .before .before .before .before .args .mac) (c .before .before .before .before .before .args .session) (c .before .before .judged .given .0 .0) (sym (ap toldOf (c .before .before .judged .given .1)) ∙ c .before .before .before .before .judge-join .ensures)))
+
+returns-2 : tie.Need-returns-2
+returns-2 c =
+    (λ i. record {
+      coordinator = c .before .before .holding .ensures i;
+      nodes = (c .owe-all .ensures ∙ ap oweAll (c .before .put-at .ensures ∙ (λ j. put (c .before .before .before .before .before .before .before .before .before .args .table .nodes) (c .before .before .before .before .chosen .ensures j) (c .before .before .before .joining .ensures j)))) i;
+      says = rests;
+      written = 0;
+      joined = c .before .before .before .before .chosen .ensures i;
+      dropped = 0;
+    }) ∙
+    sym (ap shows (join-taken (c .before .before .before .before .before .before .before .before .before .args .coordinator) (c .before .before .before .before .before .before .before .before .before .args .table .nodes) (c .before .before .before .before .before .before .before .before .before .args .kind) (c .before .before .before .before .before .before .before .before .before .args .mac) (c .before .before .before .before .before .before .before .before .before .args .session) (sym (ap toldOf (c .before .before .before .before .before .before .enum-told .given .1)) ∙ c .before .before .before .before .before .before .before .before .judge-join .ensures)))
+
+pub join-spec : {M : Type 1} → statement M
+join-spec =
+    tie.close
+    (tie.spec
+    judge-join-requires
+    enum-known-judged
+    refusing-requires
+    enum-told
+    chosen-requires
+    joining-requires
+    holding-requires
+    put-at-requires
+    owe-all-requires
+    returns
+    returns-2)

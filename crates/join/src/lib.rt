@@ -1,0 +1,195 @@
+// The step join: a board that has finished the exchange by which boards join is listed, or has its address again.
+use board::Node;
+use board::Table;
+use board::Wanted;
+use coordinator::Coordinator;
+use coordinator::Phase;
+use coordinator::Stand;
+use refusal::Refusal;
+use setup::Judged;
+use setup::Setup;
+use steps::Answer;
+use steps::Outcome;
+use steps::Stepped;
+ghost use mathlib.Core.Path.{_≡_};
+ghost use mathlib.Core.Bool.{_&&_, _||_, not};
+ghost use mathlib.Core.List.{[]};
+ghost use lib.Dec.{eqb, ltb};
+ghost use lib.ListN.{drop};
+ghost use Rattle.refusal.specs.Refusal.{ruled, refuses, gives};
+ghost use Rattle.board.specs.Node.{isListed, isKind, isMac};
+ghost use Rattle.board.specs.Wanted.{lowestOf};
+ghost use Rattle.setup.specs.Setup.{toldOf};
+ghost use Rattle.coordinator.specs.Phase.{phaseOf};
+ghost use Rattle.steps.specs.After.{shown, shows};
+ghost use Rattle.steps.specs.Join.{isResting, known, chosen, isClash, joinRules, joining, joinOf};
+
+// A board's type is neither 0 nor the coordinator's.
+fn is_kind(kind: u8) -> bool
+    ensures { λ r. ⌜ r ≡ isKind kind ⌝ }
+{
+    (kind != 0) & (kind != 165)
+}
+
+// A MAC is 1 to 2^56 - 1.
+fn is_mac(mac: u64) -> bool
+    ensures { λ r. ⌜ r ≡ isMac mac ⌝ }
+{
+    (0 < mac) & (mac < 0x100_0000_0000_0000)
+}
+
+// No wait, and no forward or return due.
+fn is_resting(phase: Phase) -> bool
+    ensures { λ r. ⌜ r ≡ isResting phase ⌝ }
+{
+    match phase {
+        Phase::Resting => true,
+        Phase::Awaiting {
+            board,
+            exchange,
+            requester,
+            acked,
+        } => false,
+        Phase::ForwardDue { board, requester } => false,
+        Phase::ReturnDue { board } => false,
+        Phase::Unknown => false,
+    }
+}
+
+// The panel waits, or a forward, a return or a list is due.
+fn is_busy(stand: Stand, k: usize, table: Table) -> bool
+    ensures { λ r. ⌜ r ≡ (not (isResting (phaseOf stand)) || ltb 0 (lowestOf (table .nodes) Wanted.Owed k)) ⌝ }
+{
+    let phase = coordinator::phase_of(stand);
+    !is_resting(phase) | (0 < board::lowest(table, Wanted::Owed, k))
+}
+
+// The position of a listed MAC; 0 for a new one.
+fn known(table: Table, k: usize, mac: u64) -> usize
+    ensures { λ r. ⌜ r ≡ known (table .nodes) k mac ⌝ }
+{
+    board::lowest(table, Wanted::Mac(mac), k)
+}
+
+// The position for a MAC: its own, or the lowest free one; 0 where there is none.
+fn chosen(table: Table, k: usize, mac: u64) -> usize
+    ensures { λ r. ⌜ r ≡ chosen (table .nodes) k mac ⌝ }
+{
+    let position = known(table, k, mac);
+    if 0 < position {
+        position
+    } else {
+        board::lowest(table, Wanted::Free, k)
+    }
+}
+
+// A record is a listed board's, and its own address is the one asked for.
+fn holds_address(node: Node, own: u8, address: u8) -> bool
+    ensures { λ r. ⌜ r ≡ (isListed node && eqb own address) ⌝ }
+{
+    (node.kind != 0) & (own == address)
+}
+
+// Some listed board has the address of a position.
+fn is_clash(setup: Setup, table: Table, position: usize) -> bool
+    ensures { λ r. ⌜ r ≡ isClash setup (table .nodes) position ⌝ }
+{
+    let address = setup::address_at(setup, position);
+    let mut clash = false;
+    let mut p: usize = 1;
+    while p < 41 {
+        let i = p - 1;
+        clash = clash | holds_address(table.nodes[i], setup::address_at(setup, p), address);
+        p += 1;
+    }
+    clash
+}
+
+// The last of the rules, on the position for the MAC: 16, 17. They do not ask for the type, which is 0 here. Where all
+// is fit the address of a free position is no listed board's, so 17 is never given; the rules ask for its test.
+fn judge_position(coordinator: Coordinator, table: Table, mac: u64) -> Judged
+    ensures { λ r. ⌜ toldOf r ≡ ruled (drop 5 (joinRules coordinator (table .nodes) 0 mac)) refuses (gives []) ⌝ }
+{
+    let setup = coordinator.setup;
+    let k = setup.k;
+    let position = chosen(table, k, mac);
+    if position == 0 {
+        return Judged::Refused(Refusal::Full);
+    }
+    if (known(table, k, mac) == 0) & is_clash(setup, table, position) {
+        return Judged::Refused(Refusal::AddressClash);
+    }
+    Judged::Fine
+}
+
+// The rules on what the panel is about, and those that follow: 14, 15, then 16 and 17. They do not ask for the type either.
+fn judge_moment(coordinator: Coordinator, table: Table, mac: u64) -> Judged
+    ensures { λ r. ⌜ toldOf r ≡ ruled (drop 3 (joinRules coordinator (table .nodes) 0 mac)) refuses (gives []) ⌝ }
+{
+    let setup = coordinator.setup;
+    let k = setup.k;
+    if is_busy(coordinator.stand, k, table) {
+        return Judged::Refused(Refusal::Busy);
+    }
+    if coordinator.held == 1 {
+        return Judged::Refused(Refusal::Held);
+    }
+    judge_position(coordinator, table, mac)
+}
+
+// What a join is refused for, in the order of the numbers: 22, then 12 to 17.
+fn judge_join(coordinator: Coordinator, table: Table, kind: u8, mac: u64) -> Judged
+    ensures { λ r. ⌜ toldOf r ≡ ruled (joinRules coordinator (table .nodes) kind mac) refuses (gives []) ⌝ }
+{
+    if !coordinator::fits(coordinator, table) {
+        return Judged::Refused(Refusal::StateUnfit);
+    }
+    if !is_kind(kind) {
+        return Judged::Refused(Refusal::BadType);
+    }
+    if !is_mac(mac) {
+        return Judged::Refused(Refusal::BadMac);
+    }
+    judge_moment(coordinator, table, mac)
+}
+
+// The record of the board that joins: the listed one with another session and no misses, or a new one.
+fn joining(table: Table, k: usize, kind: u8, mac: u64, session: u64) -> Node
+    ensures { λ r. ⌜ r ≡ joining (table .nodes) k kind mac session ⌝ }
+{
+    let position = known(table, k, mac);
+    if 0 < position {
+        let record = board::record_at(table, position);
+        let heard = board::heard(record);
+        board::renewed(heard, session)
+    } else {
+        board::joined_node(kind, mac, session)
+    }
+}
+
+// A board joins: the list is then owed to every listed board, and further joins are held.
+pub fn join(coordinator: Coordinator, table: Table, kind: u8, mac: u64, session: u64) -> Stepped
+    ensures { λ r. ⌜ shown r ≡ shows (joinOf coordinator (table .nodes) kind mac session) ⌝ }
+{
+    let judged = judge_join(coordinator, table, kind, mac);
+    match judged {
+        Judged::Refused(refusal) => steps::refusing(coordinator, table, refusal),
+        Judged::Fine => {
+            let setup = coordinator.setup;
+            let k = setup.k;
+            let position = chosen(table, k, mac);
+            let node = joining(table, k, kind, mac, session);
+            let outcome = Outcome {
+                answer: Answer::Rest,
+                written: 0,
+                joined: position,
+                dropped: 0,
+            };
+            Stepped {
+                coordinator: coordinator::holding(coordinator, true),
+                table: board::owe_all(board::put_at(table, position, node)),
+                outcome: outcome,
+            }
+        }
+    }
+}

@@ -1,0 +1,173 @@
+-- A join keeps fit.
+use Prim.Native.Nat.{ℕ, _≤_, min}
+use mathlib.Core.Path.{_≡_, refl, sym, _∙_}
+use mathlib.Core.Logic.{inl, inr}
+use mathlib.Core.Bool.{Bool, true, false, _&&_, _||_, not, false≢true}
+use mathlib.Core.List.{List}
+use native.Mathlib.Omega.{arith}
+use lib.ListN.{length}
+use lib.Dec.{ltb, eqb}
+use borrow.Author.Tests.{ltb-true, ltb-false, eqb-true, eqb-false, eq-eqb, ne-eqb, not-true, not-false}
+use Rattle.ground.specs.Choose.{choose}
+use Rattle.ground.proofs.Choices.{and-left, and-right, both}
+use Rattle.ground.proofs.Loops.{some-no}
+use Rattle.ground.proofs.Firsts.{FirstCase}
+use Rattle.refusal.specs.declared.Refusal.the-variants.{BadType, BadMac, Busy, Held, Full, AddressClash}
+use Rattle.refusal.proofs.Rules.{Passed, Each, by-rules}
+use Rattle.board.specs.declared.Node.{Node}
+use Rattle.board.specs.declared.Wanted.the-variants.{Mac, Free}
+use Rattle.board.specs.Node.{isKind, isMac}
+use Rattle.board.specs.Table.{at, put, listedAt}
+use Rattle.board.specs.Wanted.{wantedAt, lowestOf}
+use Rattle.board.specs.Change.{joinedNode, heard, renewed, oweAll}
+use Rattle.board.proofs.LowestWanted.{lowest-case}
+use Rattle.board.proofs.Changes.{owe-all-listed}
+use Rattle.setup.specs.Fitness.{Position, Listed, InRanges, FitTable}
+use Rattle.setup.specs.Setup.{address}
+use Rattle.setup.proofs.Apart.{free-apart}
+use Rattle.setup.proofs.Pools.{mac-told}
+use Rattle.setup.proofs.Tables.{table-passes}
+use Rattle.coordinator.specs.declared.Phase.{Phase}
+use Rattle.coordinator.specs.declared.Phase.the-variants.{Resting, Awaiting, ForwardDue, ReturnDue, Unknown}
+use Rattle.coordinator.specs.declared.Kept.{Kept}
+use Rattle.coordinator.specs.declared.Coordinator.{Coordinator}
+use Rattle.coordinator.specs.Phase.{phaseOf}
+use Rattle.coordinator.specs.Fit.{phaseFits, holdFits, fits}
+use Rattle.coordinator.specs.Change.{holding}
+use Rattle.coordinator.proofs.Fitting.{listed-told, listed-passes, listed-some, fits-of, fits-setup, fits-last, fit-told}
+use Rattle.steps.specs.After.{refused}
+use Rattle.steps.specs.Join.{isResting, known, chosen, isClash, joining, joinRules, joinOf}
+use Rattle.lasting.proofs.Tables.{Follows, renewed-follows, put-fit, put-listed, join-fit, join-listed, owe-all-fit}
+use Rattle.lasting.proofs.Keeps.{Keeps, accepted-keeps, refused-keeps, never-keeps, unfit-keeps, some-same, table-fit}
+
+-- a MAC that is known is that of a listed board
+pub known-listed : (t : List Node) (k mac : ℕ) → ltb 0 (known t k mac) ≡ true → listedAt t (known t k mac) ≡ true
+known-listed t k mac e = go (lowest-case t (Mac mac) k)
+  where
+    go : FirstCase 0 (wantedAt (Mac mac) t) 1 (min k 40) (known t k mac) → listedAt t (known t k mac) ≡ true
+    go (inl (none, zeroed)) = absurd (let z : ⊥ = omega (arith, ltb-true 0 (known t k mac) e) in z)
+    go (inr f) = and-left (listedAt t (known t k mac)) (eqb (at t (known t k mac) .mac) mac) (f .passes)
+
+-- a MAC that is not known is nobody's
+pub nobody-has : (t : List Node) (k mac : ℕ) → k ≤ 40 → FitTable k t → ltb 0 (known t k mac) ≡ false → (q : ℕ) → Listed t q → at t q .mac ≡ mac → ⊥
+nobody-has t k mac few f e q l same = go (lowest-case t (Mac mac) k)
+  where
+    go : FirstCase 0 (wantedAt (Mac mac) t) 1 (min k 40) (known t k mac) → ⊥
+    go (inl (none, zeroed)) = false≢true (sym (none q (f .within q l .from) (omega (arith, f .within q l .upTo))) ∙ both (listedAt t q) (eqb (at t q .mac) mac) (listed-passes t q l) (eq-eqb (at t q .mac) mac same))
+    go (inr x) = omega (arith, ltb-false 0 (known t k mac) e, x .from)
+
+-- a free position that was found is one of 1 to k, and free
+pub record FreePlace (t : List Node) (k p : ℕ) : Type 0 where
+  pub place : Position k p
+  pub inside : p ≤ 40
+  pub free : at t p .kind ≡ 0
+
+pub free-found : (t : List Node) (k : ℕ) → (lowestOf t Free k ≡ 0 → ⊥) → FreePlace t k (lowestOf t Free k)
+free-found t k ne = go (lowest-case t Free k)
+  where
+    go : FirstCase 0 (wantedAt Free t) 1 (min k 40) (lowestOf t Free k) → FreePlace t k (lowestOf t Free k)
+    go (inl (none, zeroed)) = absurd (ne zeroed)
+    go (inr f) = record { place = record { from = f .from; upTo = omega (arith, f .within) }; inside = omega (arith, f .within); free = eqb-true (at t (lowestOf t Free k) .kind) 0 (not-false _ (not-true _ (f .passes))) }
+
+-- a board's record put at a position: the table is fit, and the board is listed there
+abbrev Placed : ℕ → List Node → ℕ → Node → Type 0
+Placed k t p n = (FitTable k (put t p n)) × (listedAt (put t p n) p ≡ true)
+
+module _ (c : Coordinator) (t : List Node) (h : fits c t ≡ true) (kind mac session : ℕ) (isOne : isKind kind ≡ true) (hasMac : isMac mac ≡ true) where
+  new-ranges : InRanges (joinedNode kind mac session)
+  new-ranges =
+      record {
+        listed = eqb-false kind 0 (not-true (eqb kind 0) (and-left (not (eqb kind 0)) (not (eqb kind 165)) isOne));
+        kind = eqb-false kind 165 (not-true (eqb kind 165) (and-right (not (eqb kind 0)) (not (eqb kind 165)) isOne));
+        mac = mac-told mac hasMac;
+        misses = omega arith;
+        owed = omega arith;
+      }
+
+  comes-back : ltb 0 (known t (c .setup .k) mac) ≡ true → Placed (c .setup .k) t (known t (c .setup .k) mac) (renewed (heard (at t (known t (c .setup .k) mac))) session)
+  comes-back e = (put-fit (c .setup .k) t f _ _ l s, put-listed (c .setup .k) t f _ _ l s (known t (c .setup .k) mac) ∙ known-listed t (c .setup .k) mac e)
+    where
+      f : FitTable (c .setup .k) t
+      f = table-fit c t h
+
+      l : Listed t (known t (c .setup .k) mac)
+      l = listed-told t (known t (c .setup .k) mac) (known-listed t (c .setup .k) mac e)
+
+      s : Follows (at t (known t (c .setup .k) mac)) (renewed (heard (at t (known t (c .setup .k) mac))) session)
+      s = renewed-follows (at t (known t (c .setup .k) mac)) session
+
+  comes-new : ltb 0 (known t (c .setup .k) mac) ≡ false → (lowestOf t Free (c .setup .k) ≡ 0 → ⊥) → Placed (c .setup .k) t (lowestOf t Free (c .setup .k)) (joinedNode kind mac session)
+  comes-new e ne = (join-fit (c .setup .k) t f _ _ (p .place) inside new-ranges new, join-listed (c .setup .k) t f _ _ (p .place) inside new-ranges new)
+    where
+      f : FitTable (c .setup .k) t
+      f = table-fit c t h
+
+      p : FreePlace t (c .setup .k) (lowestOf t Free (c .setup .k))
+      p = free-found t (c .setup .k) ne
+
+      inside : lowestOf t Free (c .setup .k) ≤ length t
+      inside = omega (arith, p .inside, f .forty)
+
+      new : (q : ℕ) → Listed t q → at t q .mac ≡ mac → ⊥
+      new = nobody-has t (c .setup .k) mac (fit-told c t h .setup .pool .upTo) f e
+
+  placed : eqb (chosen t (c .setup .k) mac) 0 ≡ false → Placed (c .setup .k) t (chosen t (c .setup .k) mac) (joining t (c .setup .k) kind mac session)
+  unfolding choose
+  placed full = go (ltb 0 (known t (c .setup .k) mac)) refl full
+    where
+      go : (b : Bool) → ltb 0 (known t (c .setup .k) mac) ≡ b → eqb (choose b (known t (c .setup .k) mac) (lowestOf t Free (c .setup .k))) 0 ≡ false → Placed (c .setup .k) t (choose b (known t (c .setup .k) mac) (lowestOf t Free (c .setup .k))) (choose b (renewed (heard (at t (known t (c .setup .k) mac))) session) (joinedNode kind mac session))
+      go true e r = comes-back e
+      go false e r = comes-new e (eqb-false (lowestOf t Free (c .setup .k)) 0 r)
+
+-- nothing is named where nothing is waited for or due
+resting-fits : (p : Phase) (t : List Node) (m : Kept) → isResting p ≡ true → phaseFits p t m ≡ true
+unfolding phaseFits
+resting-fits Resting t m e = refl
+resting-fits (Awaiting b x q a) t m e = absurd (false≢true e)
+resting-fits (ForwardDue b q) t m e = absurd (false≢true e)
+resting-fits (ReturnDue b) t m e = absurd (false≢true e)
+resting-fits Unknown t m e = e
+
+-- the list is owed to all, and joins are held: the board that joined is listed
+joined-fits : (c : Coordinator) (t : List Node) → fits c t ≡ true → isResting (phaseOf (c .stand)) ≡ true → (p : ℕ) (n : Node) → Placed (c .setup .k) t p n → fits (holding c true) (oweAll (put t p n)) ≡ true
+unfolding holdFits
+joined-fits c t h rest p n (f, l) = fits-of (holding c true) (oweAll (put t p n)) (fit .forty) (fits-setup c t h) (table-passes (c .setup .k) (oweAll (put t p n)) fit) (resting-fits (phaseOf (c .stand)) (oweAll (put t p n)) (c .kept) rest) (some-same (put t p n) (oweAll (put t p n)) (owe-all-listed (put t p n)) ∙ listed-some (put t p n) p (f .forty) l) (fits-last c t h)
+  where
+    fit : FitTable (c .setup .k) (oweAll (put t p n))
+    fit = owe-all-fit (c .setup .k) (put t p n) f
+
+idle : (a b : Bool) → (not a || b) ≡ false → a ≡ true
+idle true b e = refl
+idle false b e = sym e
+
+-- 17 is not given: the address of a free position is nobody's
+clash-never : (c : Coordinator) (t : List Node) (mac : ℕ) → fits c t ≡ true → eqb (chosen t (c .setup .k) mac) 0 ≡ false → (eqb (known t (c .setup .k) mac) 0 && isClash (c .setup) t (chosen t (c .setup .k) mac)) ≡ true → ⊥
+unfolding choose
+clash-never c t mac h full e = go (ltb 0 (known t (c .setup .k) mac)) refl full (and-right (eqb (known t (c .setup .k) mac) 0) (isClash (c .setup) t (chosen t (c .setup .k) mac)) e)
+  where
+    unknown : known t (c .setup .k) mac ≡ 0
+    unknown = eqb-true (known t (c .setup .k) mac) 0 (and-left (eqb (known t (c .setup .k) mac) 0) (isClash (c .setup) t (chosen t (c .setup .k) mac)) e)
+
+    free : FreePlace t (c .setup .k) (lowestOf t Free (c .setup .k)) → isClash (c .setup) t (lowestOf t Free (c .setup .k)) ≡ false
+    free p = some-no _ 41 (λ q l. nobody q (listedAt t q) refl)
+      where
+        nobody : (q : ℕ) (b : Bool) → listedAt t q ≡ b → (b && eqb (address (c .setup) q) (address (c .setup) (lowestOf t Free (c .setup .k)))) ≡ false
+        nobody q true l = ne-eqb _ _ (λ s. free-apart (c .setup) (fit-told c t h .setup) t (table-fit c t h) (lowestOf t Free (c .setup .k)) q (p .place) (p .free) (listed-told t q l) (sym s))
+        nobody q false l = refl
+
+    go : (b : Bool) → ltb 0 (known t (c .setup .k) mac) ≡ b → eqb (choose b (known t (c .setup .k) mac) (lowestOf t Free (c .setup .k))) 0 ≡ false → isClash (c .setup) t (choose b (known t (c .setup .k) mac) (lowestOf t Free (c .setup .k))) ≡ true → ⊥
+    go true l r s = omega (arith, unknown, ltb-true 0 (known t (c .setup .k) mac) l)
+    go false l r s = false≢true (sym (free (free-found t (c .setup .k) (eqb-false (lowestOf t Free (c .setup .k)) 0 r))) ∙ s)
+
+pub join-keeps : (c : Coordinator) (t : List Node) (kind mac session : ℕ) → Keeps c t (joinOf c t kind mac session)
+unfolding joinOf
+join-keeps c t kind mac session = by-rules (Keeps c t) (joinRules c t kind mac) (refused c t) _ refusals (λ passed. accepted-keeps c t _ (joined passed) refl refl)
+  where
+    joined : Passed (joinRules c t kind mac) → fits (holding c true) (oweAll (put t (chosen t (c .setup .k) mac) (joining t (c .setup .k) kind mac session))) ≡ true
+    joined passed = joined-fits c t h (idle (isResting (phaseOf (c .stand))) _ (passed .1 .1 .1 .0)) _ _ (placed c t h kind mac session (not-false _ (passed .1 .0)) (not-false _ (passed .1 .1 .0)) (passed .1 .1 .1 .1 .1 .0))
+      where
+        h : fits c t ≡ true
+        h = not-false (fits c t) (passed .0)
+
+    refusals : Each (λ r. Keeps c t (refused c t r)) (joinRules c t kind mac)
+    refusals = (unfit-keeps c t, λ _. ((λ _. refused-keeps c t BadType refl), λ _. ((λ _. refused-keeps c t BadMac refl), λ _. ((λ _. refused-keeps c t Busy refl), λ _. ((λ _. refused-keeps c t Held refl), λ _. ((λ _. refused-keeps c t Full refl), λ full. ((λ e. never-keeps c t AddressClash (λ h. clash-never c t mac h full e)), λ _. tt)))))))

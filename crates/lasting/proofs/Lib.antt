@@ -1,0 +1,10 @@
+pub mod Tables
+pub mod Keeps
+pub mod Join
+pub mod Turn
+pub mod Heard
+pub mod Receive
+pub mod Quiet
+pub mod Keeping
+pub mod Starting
+pub mod Series

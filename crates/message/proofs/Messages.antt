@@ -1,0 +1,109 @@
+-- What the panel's frames are like: how long, what a receiver reads in them, and that only 11 can be given for them.
+use Prim.Native.Nat.{ℕ, _+_, _≤_, _<_, _^_}
+use native.Mathlib.Omega.{arith}
+use mathlib.Core.Path.{_≡_, refl, sym, ap, _∙_}
+use mathlib.Core.List.{List, [], _∷_, _++_, append-nil}
+use lib.ListN.{length, getD, take, length-append}
+use lib.Dec.{ltb}
+use borrow.Author.Tests.{le-ltb}
+use Rattle.ground.specs.Choose.{choose}
+use Rattle.ground.specs.Bytes.{laid}
+use Rattle.ground.proofs.Choices.{choose-no}
+use Rattle.ground.proofs.Laid.{taken-laid}
+use Rattle.refusal.specs.declared.Refusal.{Refusal}
+use Rattle.refusal.specs.declared.Refusal.the-variants.{NoRoom}
+use Rattle.refusal.specs.Refusal.{refuses, gives, ruled}
+use Rattle.frame.specs.declared.Header.{Header}
+use Rattle.frame.specs.Frame.{fields, reading, payloadOf, frameOf, writeRules, writing, writtenBytes}
+use Rattle.frame.proofs.RoundTrip.{long, reads-back, reads-back-payload}
+use Rattle.word.specs.Words.{bytesOf, wordAt}
+use Rattle.word.proofs.Words.{length-bytes, read-back}
+use Rattle.board.specs.declared.Node.{Node}
+use Rattle.board.specs.Wanted.{indexOf}
+use Rattle.setup.specs.declared.Setup.{Setup}
+use Rattle.setup.specs.Setup.{address}
+use Rattle.nodelist.specs.List.{nodeList}
+use Rattle.nodelist.proofs.Theorems.{at-most}
+use Rattle.message.specs.Message.{toBoard, ownHeader, signed, listHeader, signedFrame, listFrame, ackCode}
+
+-- a header of our own is one sent to the board
+pub own-to-board : (s : Setup) (t : List Node) (board message packet : ℕ) → ownHeader s t board message packet ≡ toBoard s board (ownHeader s t board message packet)
+unfolding ownHeader toBoard
+own-to-board s t board message packet = refl
+
+-- the nine bytes of a header of our own, as they stand on the wire
+pub own-fields : (s : Setup) (t : List Node) (board message packet : ℕ) → fields (ownHeader s t board message packet) ≡ address s board ∷ 255 ∷ s .subnet ∷ 0 ∷ 0 ∷ indexOf t board ∷ 165 ∷ message ∷ packet ∷ []
+unfolding ownHeader
+own-fields s t board message packet = refl
+
+-- an offer and an ACK have a payload of 17 bytes, and 29 in all
+pub signed-size : (s : Setup) (code : ℕ) → length (signed s code) ≡ 17
+unfolding signed
+signed-size s code = simp (length-append, length-bytes)
+
+pub signed-long : (s : Setup) (t : List Node) (board code : ℕ) → length (signedFrame s t board code) ≡ 29
+signed-long s t board code = long _ (signed s code) ∙ ap (λ (n : ℕ). 12 + n) (signed-size s code)
+
+-- so a payload of ours is never too long for a frame
+pub signed-small : (s : Setup) (code : ℕ) → length (signed s code) ≤ 240
+signed-small s code = omega (arith, signed-size s code)
+
+pub list-small : (internal : ℕ) (t : List Node) → length (nodeList internal t) ≤ 240
+list-small internal t = omega (arith, at-most internal t)
+
+pub list-long : (s : Setup) (t : List Node) (board : ℕ) → length (listFrame s t board) ≤ 53
+list-long s t board = omega (arith, long (listHeader s t board) (nodeList (s .internal) t), at-most (s .internal) t)
+
+-- of a payload that is not too long, a writer can only be given 11
+pub only-room {ℓ} : {A : Type ℓ} (p : List ℕ) (room : ℕ) (refusing : Refusal → A) (value : A) → length p ≤ 240 → ruled (writeRules p room) refusing value ≡ choose (ltb room (12 + length p)) (refusing NoRoom) value
+only-room p room refusing value small = sym (choose-no _ _ _ _ (le-ltb 240 (length p) small) refl)
+
+pub writing-small : (p : List ℕ) (room : ℕ) → length p ≤ 240 → writing p room ≡ choose (ltb room (12 + length p)) (refuses NoRoom) (gives ((12 + length p) ∷ []))
+unfolding writing
+writing-small p room small = only-room p room refuses _ small
+
+pub written-small : (h : Header) (p : List ℕ) (room : ℕ) → length p ≤ 240 → writtenBytes h p room ≡ choose (ltb room (12 + length p)) [] (frameOf h p)
+unfolding writtenBytes
+written-small h p room small = only-room p room (λ r. []) _ small
+
+-- where there is room the frame stands at the front of the output
+module _ (h : Header) (p before : List ℕ) (small : length p ≤ 240) (room : 12 + length p ≤ length before) where
+  pub front-is : take (12 + length p) (laid (writtenBytes h p (length before)) before) ≡ frameOf h p
+  front-is = rw (whole, ← long h p) (taken-laid (frameOf h p) before)
+    where
+      whole : writtenBytes h p (length before) ≡ frameOf h p
+      whole = written-small h p (length before) small ∙ sym (choose-no _ _ _ _ (le-ltb (length before) (12 + length p) room) refl)
+
+  -- and its receiver reads the header's fields and the payload
+  pub front-reads : reading (take (12 + length p) (laid (writtenBytes h p (length before)) before)) ≡ gives (fields h ++ length p ∷ [])
+  front-reads = ap reading front-is ∙ reads-back h p small
+
+  pub front-payload : payloadOf (take (12 + length p) (laid (writtenBytes h p (length before)) before)) ≡ p
+  front-payload = ap payloadOf front-is ∙ reads-back-payload h p small
+
+-- the form of the R2R and of its ACK (003, Tables 48 and 49): the code at offset 0, the MAC at 1 to 8, the session at 9 to 16
+pub record Form (code mac session : ℕ) (p : List ℕ) : Type 0 where
+  pub size : length p ≡ 17
+  pub first : getD p 0 0 ≡ code
+  pub macAt : wordAt p 1 ≡ mac
+  pub sessionAt : wordAt p 9 ≡ session
+
+pub signed-form : (s : Setup) (code : ℕ) → s .mac < 2 ^ 64 → s .session < 2 ^ 64 → Form code (s .mac) (s .session) (signed s code)
+unfolding signed
+signed-form s code m n =
+    record {
+      size = signed-size s code;
+      first = refl;
+      macAt = read-back (code ∷ []) (bytesOf 8 (s .session)) (s .mac) m;
+      sessionAt = at-nine;
+    }
+  where
+    nine : length (code ∷ bytesOf 8 (s .mac)) ≡ 9
+    nine = omega (arith, length-bytes 8 (s .mac))
+
+    at-nine : wordAt (code ∷ (bytesOf 8 (s .mac) ++ bytesOf 8 (s .session))) 9 ≡ s .session
+    at-nine = rw (← nine, ← append-nil (bytesOf 8 (s .session))) (read-back (code ∷ bytesOf 8 (s .mac)) [] (s .session) n)
+
+-- the ACK that we write has the form of Table 49, with our MAC and our session
+pub ack-form : (s : Setup) → s .mac < 2 ^ 64 → s .session < 2 ^ 64 → Form 6 (s .mac) (s .session) (signed s ackCode)
+ack-form s m n = signed-form s ackCode m n

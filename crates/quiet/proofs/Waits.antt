@@ -1,0 +1,76 @@
+-- What quiet does, case by case.
+use Prim.Native.Nat.{ℕ, _≤_, _<_}
+use mathlib.Core.Path.{_≡_, refl, sym, ap, _∙_}
+use mathlib.Core.Logic.{inl, inr}
+use mathlib.Core.Bool.{Bool, true, false}
+use mathlib.Core.List.{List, [], _∷_}
+use native.Mathlib.Omega.{arith}
+use types.Run.{OneOf}
+use denote.Enum.Declared.{tagOf}
+use lib.Dec.{ltb}
+use borrow.Author.Tests.{lt-ltb, le-ltb}
+use Rattle.ground.proofs.Choices.{choose-yes, choose-no, not-yes, not-no}
+use Rattle.refusal.specs.declared.Refusal.the-variants.{StateUnfit, NotWaiting}
+use Rattle.board.specs.declared.Node.{Node}
+use Rattle.board.specs.Table.{at, put}
+use Rattle.board.specs.Change.{missed}
+use Rattle.coordinator.specs.declared.Coordinator.{Coordinator}
+use Rattle.coordinator.specs.declared.Exchange.{Exchange}
+use Rattle.coordinator.specs.declared.Phase.{Phase}
+use Rattle.coordinator.specs.declared.Phase.the-variants.{Resting, Awaiting, ForwardDue, ReturnDue, Unknown}
+use Rattle.coordinator.proofs.Phase.{the-type}
+use Rattle.coordinator.specs.Phase.{phaseOf}
+use Rattle.coordinator.specs.Fit.{fits}
+use Rattle.coordinator.specs.Change.{withPhase}
+use Rattle.steps.specs.After.{shows, refused}
+use Rattle.steps.specs.Turn.{isAwaiting}
+use Rattle.steps.specs.Quiet.{stillHeld, droppedAt, missedAt, quietValue, quietIn, quietOf}
+use Rattle.quiet.specs.Ended.{ended}
+
+-- equals leave equals
+pub same-ended : {c d : Coordinator} {t u : List Node} (b : ℕ) → c ≡ d → t ≡ u → shows (ended c t b) ≡ shows (ended d u b)
+same-ended b e f = λ i. shows (ended (e i) (f i) b)
+
+pub same-held : {c d : Coordinator} {t u : List Node} → c ≡ d → t ≡ u → stillHeld c t ≡ stillHeld d u
+same-held e f = λ i. stillHeld (e i) (f i)
+
+-- the variants but the second, which is the wait: what the other arm of a match on the phase is told
+pub no-wait : (p : Phase) → OneOf (0 ∷ 2 ∷ 3 ∷ 4 ∷ []) (tagOf the-type p) → isAwaiting p ≡ false
+no-wait Resting h = refl
+no-wait (Awaiting b e q a) (inl h) = absurd (let z : ⊥ = omega arith in z)
+no-wait (Awaiting b e q a) (inr (inl h)) = absurd (let z : ⊥ = omega arith in z)
+no-wait (Awaiting b e q a) (inr (inr (inl h))) = absurd (let z : ⊥ = omega arith in z)
+no-wait (Awaiting b e q a) (inr (inr (inr h))) = absurd (let z : ⊥ = omega arith in z)
+no-wait (ForwardDue b q) h = refl
+no-wait (ReturnDue b) h = refl
+no-wait Unknown h = refl
+
+module _ (c : Coordinator) (t : List Node) where
+  -- with at most one miss so far, there is one more
+  pub miss-noted : (b : ℕ) (n : Node) → n ≡ at t b → n .misses < 2 → missedAt c t b ≡ ended (withPhase c Resting) (put t b (missed n)) 0
+  miss-noted b n e h = sym (choose-yes _ _ _ _ (ap (λ (m : Node). ltb (m .misses) 2) (sym e) ∙ lt-ltb (n .misses) 2 h) (ap (λ (m : Node). ended (withPhase c Resting) (put t b (missed m)) 0) e))
+
+  -- with two, the third drops the board
+  pub third-drops : (b : ℕ) (n : Node) → n ≡ at t b → 2 ≤ n .misses → missedAt c t b ≡ droppedAt c t b
+  third-drops b n e h = sym (choose-no _ _ _ _ (ap (λ (m : Node). ltb (m .misses) 2) (sym e) ∙ le-ltb (n .misses) 2 h) refl)
+
+  pub unfit : fits c t ≡ false → quietOf c t ≡ refused c t StateUnfit
+  unfolding quietIn
+  unfit h = sym (choose-yes _ _ _ _ (not-yes (fits c t) h) refl)
+
+  module _ (h : fits c t ≡ true) where
+    pub not-waiting : isAwaiting (phaseOf (c .stand)) ≡ false → quietOf c t ≡ refused c t NotWaiting
+    unfolding quietIn
+    not-waiting w = sym (choose-no _ _ _ _ (not-no (fits c t) h) (choose-yes _ _ _ _ (not-yes (isAwaiting (phaseOf (c .stand))) w) refl))
+
+    -- quiet in a wait
+    module _ {b : ℕ} {e : Exchange} {q : ℕ} {a : Bool} (w : phaseOf (c .stand) ≡ Awaiting b e q a) where
+      waited : quietOf c t ≡ quietValue (Awaiting b e q a) c t
+      unfolding quietIn
+      waited = ap (λ (p : Phase). quietIn p c t) w ∙ sym (choose-no _ _ _ _ (not-no (fits c t) h) (choose-no _ _ _ _ refl refl))
+
+      pub after-ack : a ≡ true → quietOf c t ≡ ended (withPhase c Resting) t 0
+      after-ack k = waited ∙ sym (choose-yes _ _ _ _ k refl)
+
+      pub unanswered : a ≡ false → quietOf c t ≡ missedAt c t b
+      unanswered k = waited ∙ sym (choose-no _ _ _ _ k refl)

@@ -1,0 +1,15 @@
+-- `replay::parse::within` meets its contract: the smaller of the two is a count of the text.
+use native.Mathlib.Omega.{arith}
+use Rattle.io.proofs.Counting.{counts}
+use borrow.Author.Needs.{needs}
+use Rattle.replay.proofs.parse.within.Statement.{statement}
+use Rattle.replay.proofs.parse.within.Tie as tie
+
+least-requires : tie.Need-least-requires
+least-requires c κs = search needs
+
+returns : tie.Need-returns
+returns c = counts _ _ (omega arith)
+
+pub within-spec : {M : Type 1} → statement M
+within-spec = tie.close (tie.spec least-requires returns)

@@ -1,0 +1,340 @@
+// The words of a line. Words are separated by one space, so that two spaces in a row hold an empty word, which is none of ours.
+use steps::Event;
+ghost use Prim.Native.Nat.{_≤_, _<_};
+ghost use lib.ListN.{length};
+ghost use Rattle.io.specs.Counts.{Counts};
+
+// A field that takes any word of sixty-four bits.
+const ANY: u64 = 18446744073709551615;
+
+// A number read off a line, where the next word begins (past the line's end where there is none), and whether it is one.
+struct Field {
+    value: u64,
+    next: usize,
+    ok: bool,
+}
+
+// How many there are, and whether each is what it has to be.
+struct Count {
+    value: usize,
+    ok: bool,
+}
+
+// The first words.
+enum Word {
+    Setup,
+    Join,
+    Turn,
+    Frame,
+    Quiet,
+    Table,
+    Other,
+}
+
+// What a line asks for; the addresses and the frame stand in the bytes beside it, as many as it says.
+pub(crate) enum Order {
+    Pass,
+    Setup {
+        subnet: u8,
+        internal: u8,
+        mac: u64,
+        session: u64,
+        count: usize,
+    },
+    Step {
+        event: Event,
+        room: usize,
+        count: usize,
+    },
+    Table,
+    Bad,
+}
+
+// A number, cut to what the text has.
+pub(crate) fn within(n: usize, text: &[u8]) -> usize
+    ensures { λ r. ⌜ Counts r (now (text .entry)) ⌝ }
+{
+    ground::least(n, text.len())
+}
+
+// How many bytes stand before the first of this value; all of them where there is none.
+pub(crate) fn before(text: &[u8], mark: u8) -> usize
+    ensures { λ r. ⌜ Counts r (now (text .entry)) ⌝ }
+{
+    let mut i: usize = 0;
+    while i < text.len() {
+        if text[i] == mark {
+            return i;
+        }
+        i += 1;
+    }
+    i
+}
+
+fn same(a: &[u8], b: &[u8]) -> bool {
+    if a.len() != b.len() {
+        return false;
+    }
+    let mut ok = true;
+    let mut i: usize = 0;
+    while i < b.len() {
+        ok = ok & (a[i] == b[i]);
+        i += 1;
+    }
+    ok
+}
+
+fn later_word(word: &[u8]) -> Word {
+    if same(word, b"frame") {
+        return Word::Frame;
+    }
+    if same(word, b"quiet") {
+        return Word::Quiet;
+    }
+    if same(word, b"table") {
+        return Word::Table;
+    }
+    Word::Other
+}
+
+fn word_of(word: &[u8]) -> Word {
+    if same(word, b"setup") {
+        return Word::Setup;
+    }
+    if same(word, b"join") {
+        return Word::Join;
+    }
+    if same(word, b"turn") {
+        return Word::Turn;
+    }
+    later_word(word)
+}
+
+// One digit more, where the number still fits.
+fn with_digit(field: Field, digit: u8) -> Field {
+    let d = digit as u64;
+    let mut f = field;
+    if d < 48 {
+        f.ok = false;
+        return f;
+    }
+    if 57 < d {
+        f.ok = false;
+        return f;
+    }
+    let v = d - 48;
+    if f.value <= (ANY - v) / 10 {
+        f.value = f.value * 10 + v;
+    } else {
+        f.ok = false;
+    }
+    f
+}
+
+// The number that a word is: digits only, at least one.
+fn number(word: &[u8]) -> Field {
+    let mut f = Field {
+        value: 0,
+        next: 0,
+        ok: 0 < word.len(),
+    };
+    let mut i: usize = 0;
+    while i < word.len() {
+        f = with_digit(f, word[i]);
+        i += 1;
+    }
+    f
+}
+
+// The number at the word that begins here, and whether it is at most this one.
+fn field_at(line: &[u8], at: usize, most: u64) -> Field
+    ensures { λ r. ⌜ (at ≤ length (now (line .entry)) → at < r .next) ⌝ }
+{
+    if line.len() < at {
+        return Field {
+            value: 0,
+            next: at,
+            ok: false,
+        };
+    }
+    let rest = &line[at..];
+    let n = before(rest, b' ');
+    let f = number(&rest[..n]);
+    let end = at + n;
+    Field {
+        value: f.value,
+        next: end + 1,
+        ok: f.ok & (f.value <= most),
+    }
+}
+
+// A byte, of a field that was asked to be one.
+fn byte(value: u64) -> u8 {
+    (value % 256) as u8
+}
+
+// Lays a byte at a place, where there is such a place.
+fn lay(out: &mut [u8], at: usize, b: u8) {
+    if at < out.len() {
+        out[at] = b;
+    }
+}
+
+// The addresses from here on to the end of the line, as many as there is room for; further ones are only looked at and counted.
+fn addresses(line: &[u8], at: usize, out: &mut [u8]) -> Count {
+    let mut n: usize = 0;
+    let mut ok = true;
+    let mut from = at;
+    while from <= line.len() {
+        let f = field_at(line, from, 255);
+        ok = ok & f.ok;
+        lay(out, n, byte(f.value));
+        n += 1;
+        from = f.next;
+    }
+    Count { value: n, ok: ok }
+}
+
+// What a hex digit is worth; 16 where it is none.
+fn digit(b: u8) -> u8
+    ensures { λ r. ⌜ r ≤ 16 ⌝ }
+{
+    match b {
+        48..=57 => b - 48,
+        65..=70 => b - 55,
+        97..=102 => b - 87,
+        _ => 16,
+    }
+}
+
+// The bytes that pairs of hex digits stand for: one at least, and no more than there is room for.
+fn hex(word: &[u8], out: &mut [u8]) -> Count {
+    let pairs = word.len() / 2;
+    let n = ground::least(pairs, out.len());
+    let mut ok = (word.len() % 2 == 0) & (0 < pairs) & (n == pairs);
+    let mut i: usize = 0;
+    while i < n {
+        let high = digit(word[2 * i]);
+        let low = digit(word[2 * i + 1]);
+        ok = ok & (high < 16) & (low < 16);
+        out[i] = (high % 16) * 16 + low % 16;
+        i += 1;
+    }
+    Count { value: n, ok: ok }
+}
+
+// setup SUBNET INTERNAL MAC SESSION ADDRESS...
+fn read_setup(line: &[u8], bytes: &mut [u8]) -> Order {
+    let subnet = field_at(line, 6, 255);
+    let internal = field_at(line, subnet.next, 255);
+    let mac = field_at(line, internal.next, ANY);
+    let session = field_at(line, mac.next, ANY);
+    let n = addresses(line, session.next, bytes);
+    if subnet.ok & internal.ok & mac.ok & session.ok & n.ok {
+        Order::Setup {
+            subnet: byte(subnet.value),
+            internal: byte(internal.value),
+            mac: mac.value,
+            session: session.value,
+            count: n.value,
+        }
+    } else {
+        Order::Bad
+    }
+}
+
+// join TYPE MAC SESSION
+fn read_join(line: &[u8]) -> Order {
+    let kind = field_at(line, 5, 255);
+    let mac = field_at(line, kind.next, ANY);
+    let session = field_at(line, mac.next, ANY);
+    if kind.ok & mac.ok & session.ok & (line.len() < session.next) {
+        let event = Event::Join {
+            kind: byte(kind.value),
+            mac: mac.value,
+            session: session.value,
+        };
+        Order::Step {
+            event: event,
+            room: 0,
+            count: 0,
+        }
+    } else {
+        Order::Bad
+    }
+}
+
+// turn ROOM
+fn read_turn(line: &[u8]) -> Order {
+    let room = field_at(line, 5, 1024);
+    if room.ok & (line.len() < room.next) {
+        Order::Step {
+            event: Event::Turn,
+            room: room.value as usize,
+            count: 0,
+        }
+    } else {
+        Order::Bad
+    }
+}
+
+// The bytes of a frame from here on; none past the end of the line, which is the empty frame.
+fn frame_from(line: &[u8], at: usize, bytes: &mut [u8]) -> Count {
+    if at <= line.len() {
+        hex(&line[at..], bytes)
+    } else {
+        Count { value: 0, ok: true }
+    }
+}
+
+// frame ROOM HEX
+fn read_frame(line: &[u8], bytes: &mut [u8]) -> Order {
+    let room = field_at(line, 6, 1024);
+    let n = frame_from(line, room.next, bytes);
+    if room.ok & n.ok {
+        Order::Step {
+            event: Event::Frame,
+            room: room.value as usize,
+            count: n.value,
+        }
+    } else {
+        Order::Bad
+    }
+}
+
+// A line that is one word.
+fn alone(line: &[u8], order: Order) -> Order {
+    if line.len() == 5 { order } else { Order::Bad }
+}
+
+fn read_words(line: &[u8], bytes: &mut [u8]) -> Order {
+    let n = before(line, b' ');
+    let word = word_of(&line[..n]);
+    match word {
+        Word::Setup => read_setup(line, bytes),
+        Word::Join => read_join(line),
+        Word::Turn => read_turn(line),
+        Word::Frame => read_frame(line, bytes),
+        Word::Quiet => alone(
+            line,
+            Order::Step {
+                event: Event::Quiet,
+                room: 0,
+                count: 0,
+            },
+        ),
+        Word::Table => alone(line, Order::Table),
+        Word::Other => Order::Bad,
+    }
+}
+
+// What a line asks for. An empty line and one that begins with # ask for nothing.
+pub(crate) fn read_line(line: &[u8], bytes: &mut [u8]) -> Order {
+    if line.len() == 0 {
+        return Order::Pass;
+    }
+    if line[0] == b'#' {
+        return Order::Pass;
+    }
+    read_words(line, bytes)
+}

@@ -1,0 +1,4 @@
+pub mod Series
+pub mod Observed
+pub mod Demand
+pub mod Ours

@@ -1,0 +1,3 @@
+pub mod Cases
+pub mod Started
+pub mod Unique

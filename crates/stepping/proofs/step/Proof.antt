@@ -1,0 +1,77 @@
+-- `stepping::step` meets its contract: each event's step is its own, and a join and a quiet write nothing.
+use Prim.Native.Nat.{ℕ}
+use mathlib.Core.Path.{sym, ap}
+use mathlib.Core.List.{List}
+use denote.Ref.{now}
+use Rattle.ground.specs.Bytes.{laid}
+use Rattle.stepping.proofs.Silent.{join-silent, quiet-silent}
+use borrow.Author.Needs.{needs}
+use Rattle.stepping.proofs.step.Statement.{statement}
+use Rattle.stepping.proofs.step.Tie as tie
+
+enum-known-event : tie.Need-enum-known-event
+enum-known-event c = search needs
+
+join-requires : tie.Need-join-requires
+join-requires c κs = search needs
+
+enum-told : tie.Need-enum-told
+enum-told c = search needs
+
+turn-requires : tie.Need-turn-requires
+turn-requires c κs = search needs
+
+enum-told-2 : tie.Need-enum-told-2
+enum-told-2 c = search needs
+
+receive-requires : tie.Need-receive-requires
+receive-requires c κs = search needs
+
+enum-told-3 : tie.Need-enum-told-3
+enum-told-3 c = search needs
+
+quiet-requires : tie.Need-quiet-requires
+quiet-requires c κs = search needs
+
+returns : tie.Need-returns
+returns c =
+    let args = c .before .before .before .before .before .before .args in
+    rw (c .before .before .event .given .1)
+    (c .join .ensures, ap (λ (bytes : List ℕ). laid bytes (now (args .out))) (sym (join-silent (args .coordinator) (args .table .nodes) _ _ _)))
+
+same-length : tie.Need-same-length
+same-length c = search needs
+
+returns-2 : tie.Need-returns-2
+returns-2 c = rw (c .before .before .before .before .enum-told .given .1) (c .before .before .turn .ensures)
+
+same-length-2 : tie.Need-same-length-2
+same-length-2 c = search needs
+
+returns-3 : tie.Need-returns-3
+returns-3 c = rw (c .before .before .before .before .enum-told2 .given .1) (c .before .before .receive .ensures)
+
+returns-4 : tie.Need-returns-4
+returns-4 c =
+    let args = c .before .before .before .before .before .args in
+    rw (c .before .enum-told3 .given .1)
+    (c .quiet .ensures, ap (λ (bytes : List ℕ). laid bytes (now (args .out))) (sym (quiet-silent (args .coordinator) (args .table .nodes))))
+
+pub step-spec : {M : Type 1} → statement M
+step-spec =
+    tie.close
+    (tie.spec
+    enum-known-event
+    join-requires
+    enum-told
+    turn-requires
+    enum-told-2
+    receive-requires
+    enum-told-3
+    quiet-requires
+    returns
+    same-length
+    returns-2
+    same-length-2
+    returns-3
+    returns-4)

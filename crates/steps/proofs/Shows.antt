@@ -1,0 +1,92 @@
+-- What an answer says tells it apart, and so what a caller is shown tells what a step left.
+use Prim.Native.Nat.{ℕ}
+use native.Mathlib.Omega.{arith}
+use mathlib.Core.Path.{_≡_, refl, sym, ap, _∙_}
+use mathlib.Core.List.{List, [], _∷_}
+use lib.ListN.{getD}
+use Rattle.refusal.specs.Refusal.{Told, refuses}
+use Rattle.refusal.specs.declared.Refusal.{Refusal}
+use Rattle.refusal.proofs.Numbers.{not-zero, same-refused}
+use Rattle.coordinator.specs.declared.Exchange.{Exchange}
+use Rattle.coordinator.specs.declared.Exchange.the-variants.{Offer, List as Listing, Forward, Return}
+use Rattle.steps.specs.declared.Answer.{Answer}
+use Rattle.steps.specs.declared.Answer.the-variants.{Wait, Deliver, Transmit, Rest, Refuse}
+use Rattle.steps.specs.declared.Stepped.{Stepped}
+use Rattle.steps.specs.After.{exchangeNumber, told, Shown, shown}
+
+-- the exchanges by their numbers
+exchangeAt : ℕ → Exchange
+exchangeAt n = getD (Offer ∷ Offer ∷ Listing ∷ Forward ∷ Return ∷ []) n Offer
+
+placed : (e : Exchange) → exchangeAt (exchangeNumber e) ≡ e
+unfolding exchangeAt
+placed Offer = refl
+placed Listing = refl
+placed Forward = refl
+placed Return = refl
+
+-- the answers by what they say, where they refuse nothing
+answerAt : List ℕ → Answer
+unfolding exchangeAt
+answerAt vs = getD (Rest ∷ Wait (getD vs 1 0) (exchangeAt (getD vs 2 0)) ∷ Deliver ∷ Transmit ∷ Rest ∷ []) (getD vs 0 0) Rest
+
+number : {a b : Told} → a ≡ b → a .number ≡ b .number
+number e = ap (λ (t : Told). t .number) e
+
+-- the values of two answers that refuse nothing tell them apart
+data Taken : Answer → Type 0 where
+  taken-wait : (b : ℕ) (e : Exchange) → Taken (Wait b e)
+  taken-deliver : Taken Deliver
+  taken-transmit : Taken Transmit
+  taken-rest : Taken Rest
+
+back : {a : Answer} → Taken a → answerAt (told a .values) ≡ a
+unfolding answerAt
+back (taken-wait b e) = ap (Wait b) (placed e)
+back taken-deliver = refl
+back taken-transmit = refl
+back taken-rest = refl
+
+both-taken : {a b : Answer} → Taken a → Taken b → told a ≡ told b → a ≡ b
+both-taken p q e = sym (back p) ∙ ap (λ (t : Told). answerAt (t .values)) e ∙ back q
+
+taken-not-refused : {A : Type 0} (r : Refusal) {a : Answer} → Taken a → told a ≡ refuses r → A
+taken-not-refused r (taken-wait b x) e = absurd (not-zero r (sym (number e)))
+taken-not-refused r taken-deliver e = absurd (not-zero r (sym (number e)))
+taken-not-refused r taken-transmit e = absurd (not-zero r (sym (number e)))
+taken-not-refused r taken-rest e = absurd (not-zero r (sym (number e)))
+
+-- an answer that is taken, against any answer
+against : (a b : Answer) → Taken a → told a ≡ told b → a ≡ b
+against a (Wait b x) p e = both-taken p (taken-wait b x) e
+against a Deliver p e = both-taken p taken-deliver e
+against a Transmit p e = both-taken p taken-transmit e
+against a Rest p e = both-taken p taken-rest e
+against a (Refuse r) p e = taken-not-refused r p e
+
+refused-against : (r : Refusal) (b : Answer) → refuses r ≡ told b → Refuse r ≡ b
+refused-against r (Wait b x) e = taken-not-refused r (taken-wait b x) (sym e)
+refused-against r Deliver e = taken-not-refused r taken-deliver (sym e)
+refused-against r Transmit e = taken-not-refused r taken-transmit (sym e)
+refused-against r Rest e = taken-not-refused r taken-rest (sym e)
+refused-against r (Refuse q) e = ap Refuse (same-refused r q e)
+
+-- two answers that say the same are the same
+pub same-told : (a b : Answer) → told a ≡ told b → a ≡ b
+same-told (Wait b x) q e = against (Wait b x) q (taken-wait b x) e
+same-told Deliver q e = against Deliver q taken-deliver e
+same-told Transmit q e = against Transmit q taken-transmit e
+same-told Rest q e = against Rest q taken-rest e
+same-told (Refuse r) q e = refused-against r q e
+
+-- two steps that show the same are the same
+pub same-shown : (r q : Stepped) → shown r ≡ shown q → r ≡ q
+same-shown r q e =
+    λ i. record {
+      coordinator = e i .coordinator;
+      table = record { nodes = e i .nodes };
+      outcome = record { answer = answer i; written = e i .written; joined = e i .joined; dropped = e i .dropped };
+    }
+  where
+    answer : r .outcome .answer ≡ q .outcome .answer
+    answer = same-told (r .outcome .answer) (q .outcome .answer) (ap (λ (s : Shown). s .says) e)

@@ -1,0 +1,74 @@
+-- Join (01, "Join").
+use Prim.Native.Nat.{ℕ}
+use mathlib.Core.Bool.{Bool, true, false, _&&_, _||_, not}
+use mathlib.Core.List.{List, [], _∷_}
+use lib.Dec.{eqb, ltb}
+use Rattle.ground.specs.Choose.{choose}
+use Rattle.ground.specs.Below.{some}
+use Rattle.refusal.specs.Refusal.{ruled}
+use Rattle.refusal.specs.declared.Refusal.{Refusal}
+use Rattle.refusal.specs.declared.Refusal.the-variants.{StateUnfit, BadType, BadMac, Busy, Held, Full, AddressClash}
+use Rattle.board.specs.declared.Node.{Node}
+use Rattle.board.specs.declared.Wanted.the-variants.{Owed, Mac, Free}
+use Rattle.board.specs.Node.{isKind, isMac}
+use Rattle.board.specs.Table.{at, put, listedAt}
+use Rattle.board.specs.Wanted.{lowestOf}
+use Rattle.board.specs.Change.{joinedNode, heard, renewed, oweAll}
+use Rattle.setup.specs.declared.Setup.{Setup}
+use Rattle.setup.specs.Setup.{address}
+use Rattle.coordinator.specs.declared.Coordinator.{Coordinator}
+use Rattle.coordinator.specs.declared.Phase.{Phase}
+use Rattle.coordinator.specs.declared.Phase.the-variants.{Resting, Awaiting, ForwardDue, ReturnDue, Unknown}
+use Rattle.coordinator.specs.Phase.{phaseOf}
+use Rattle.coordinator.specs.Fit.{fits}
+use Rattle.coordinator.specs.Change.{holding}
+use Rattle.steps.specs.After.{After, refused, rests}
+
+-- no wait, and no forward or return due
+abbrev pub isResting : Phase → Bool
+isResting Resting = true
+isResting (Awaiting board exchange requester acked) = false
+isResting (ForwardDue board requester) = false
+isResting (ReturnDue board) = false
+isResting Unknown = false
+
+-- the position of a listed MAC, 0 for a new one
+abbrev pub known : List Node → ℕ → ℕ → ℕ
+known t k mac = lowestOf t (Mac mac) k
+
+-- a listed MAC has its address again; a new MAC gets the lowest free position, 0 where there is none (01, "Join")
+abbrev pub chosen : List Node → ℕ → ℕ → ℕ
+chosen t k mac = choose (ltb 0 (known t k mac)) (known t k mac) (lowestOf t Free k)
+
+-- some listed board has the address of position p (01, number 17)
+abbrev pub isClash : Setup → List Node → ℕ → Bool
+isClash s t p = some (λ q. listedAt t q && eqb (address s q) (address s p)) 41
+
+-- when a join is refused, in the order of the numbers: 22, then 12 to 17 (01, "Numbers" and "Order")
+abbrev pub joinRules : Coordinator → List Node → ℕ → ℕ → List (Bool × Refusal)
+joinRules c t kind mac =
+    (not (fits c t), StateUnfit) ∷
+    (not (isKind kind), BadType) ∷
+    (not (isMac mac), BadMac) ∷
+    (not (isResting (phaseOf (c .stand))) || ltb 0 (lowestOf t Owed (c .setup .k)), Busy) ∷
+    (eqb (c .held) 1, Held) ∷
+    (eqb (chosen t (c .setup .k) mac) 0, Full) ∷
+    (eqb (known t (c .setup .k) mac) 0 && isClash (c .setup) t (chosen t (c .setup .k) mac), AddressClash) ∷ []
+
+-- the record of the board that joins: a new one, or the listed one with its session replaced and misses 0, its type as on record (01, "Join")
+abbrev pub joining : List Node → ℕ → ℕ → ℕ → ℕ → Node
+joining t k kind mac session =
+    choose (ltb 0 (known t k mac)) (renewed (heard (at t (known t k mac))) session) (joinedNode kind mac session)
+
+-- either way the list is owed to every listed board, and further joins are held (01, "Join")
+unfoldable pub joinOf : Coordinator → List Node → ℕ → ℕ → ℕ → After
+joinOf c t kind mac session =
+    ruled (joinRules c t kind mac) (refused c t)
+    (record {
+      coordinator = holding c true;
+      nodes = oweAll (put t (chosen t (c .setup .k) mac) (joining t (c .setup .k) kind mac session));
+      says = rests;
+      bytes = [];
+      joined = chosen t (c .setup .k) mac;
+      dropped = 0;
+    })

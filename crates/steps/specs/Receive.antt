@@ -1,0 +1,121 @@
+-- Frame: bytes received (01, "Frame (received bytes)").
+use Prim.Native.Nat.{ℕ}
+use mathlib.Core.Bool.{Bool, true, false, not}
+use mathlib.Core.List.{List, [], _∷_, _++_}
+use lib.ListN.{length, take, drop, replicate}
+use lib.Dec.{eqb, ltb}
+use Rattle.ground.specs.Choose.{choose}
+use Rattle.ground.specs.Bytes.{laid}
+use Rattle.refusal.specs.Refusal.{Told, ruled}
+use Rattle.refusal.specs.declared.Refusal.{Refusal}
+use Rattle.refusal.specs.declared.Refusal.the-variants.{StateUnfit, NotForUs, NotAwaited, NoRoom}
+use Rattle.frame.specs.declared.Header.{Header}
+use Rattle.frame.specs.Frame.{headerOf, lengthByte, readRules}
+use Rattle.board.specs.declared.Node.{Node}
+use Rattle.board.specs.Table.{at, put}
+use Rattle.board.specs.Change.{heard, renewed, oweAll}
+use Rattle.setup.specs.declared.Setup.{Setup}
+use Rattle.setup.specs.Setup.{address}
+use Rattle.nodelist.specs.List.{sameList}
+use Rattle.routing.specs.Route.{routeOf}
+use Rattle.message.specs.Message.{signedFrame, ackCode}
+use Rattle.accept.specs.declared.Heard.{Heard}
+use Rattle.accept.specs.declared.Heard.the-variants.{Ack, Echo, Deliver, Route, Answer, Refused}
+use Rattle.accept.specs.Accept.{isAck, ackSession, heardAfterOffer, heardAfterList, heardAfterForward, heardAfterReturn}
+use Rattle.coordinator.specs.declared.Coordinator.{Coordinator}
+use Rattle.coordinator.specs.declared.Kept.{Kept}
+use Rattle.coordinator.specs.declared.Exchange.{Exchange}
+use Rattle.coordinator.specs.declared.Exchange.the-variants.{Offer, List as Listing, Forward, Return}
+use Rattle.coordinator.specs.declared.Phase.{Phase}
+use Rattle.coordinator.specs.declared.Phase.the-variants.{Resting, Awaiting, ForwardDue, ReturnDue, Unknown}
+use Rattle.coordinator.specs.Phase.{phaseOf}
+use Rattle.coordinator.specs.Fit.{fits}
+use Rattle.coordinator.specs.Change.{withPhase, keeping}
+use Rattle.steps.specs.After.{After, refused, accepted, waits, delivers, transmits, rests}
+
+-- the payload of bytes that passed the reader
+abbrev pub payload : List ℕ → List ℕ
+payload b = take (lengthByte b) (drop 10 b)
+
+-- the awaited board's address is the source (01, number 6)
+abbrev pub awaits : Phase → Setup → ℕ → Bool
+awaits Resting s source = false
+awaits (Awaiting board exchange requester acked) s source = eqb source (address s board)
+awaits (ForwardDue board requester) s source = false
+awaits (ReturnDue board) s source = false
+awaits Unknown s source = false
+
+-- what bytes are to the wait that is on: what it takes, or 7, 8, 9 (01, "Frame")
+abbrev pub heardIn : Exchange → ℕ → Bool → Coordinator → List Node → Header → List ℕ → Heard
+heardIn Offer board acked c t h p = heardAfterOffer (h .message) (h .method) (isAck (at t board .mac) p)
+heardIn Listing board acked c t h p = heardAfterList (h .message) (sameList (c .setup .internal) t p)
+heardIn Forward board acked c t h p = heardAfterForward (h .message) (c .kept .message) (isAck (at t board .mac) p) acked
+heardIn Return board acked c t h p = heardAfterReturn (h .message) (isAck (at t board .mac) p)
+
+-- a board that is heard has no misses (01, "Frame": "sets the board's misses to 0")
+abbrev pub hear : List Node → ℕ → List Node
+hear t board = put t board (heard (at t board))
+
+-- an accepted ACK with another session replaces it and owes the list to all (01, "Frame"; 000, 7.10.2)
+abbrev pub hearAck : List Node → ℕ → ℕ → List Node
+hearAck t board session =
+    choose (eqb session (at t board .session)) (hear t board) (oweAll (put t board (renewed (heard (at t board)) session)))
+
+-- the message to carry: type, packet number, source node type, method, parameter 1 and payload of the frame received (01, "Forward and return"); zeros past the payload (house)
+abbrev pub keptOf : Header → List ℕ → Kept
+keptOf h p =
+    record {
+      message = h .message;
+      packet = h .packet;
+      kind = h .kind;
+      method = h .method;
+      parameter = h .parameter1;
+      length = length p;
+      payload = laid p (replicate 240 0);
+    }
+
+-- for a request or a response (0x94 too) the ACK due to the sender is written; 11 where it has no room (01, "Frame" and "Order")
+abbrev pub acking : Coordinator → List Node → ℕ → ℕ → Told → Coordinator → After
+acking c t board room says after =
+    choose (ltb room 29) (refused c t NoRoom) (accepted after (hear t board) says (signedFrame (c .setup) t board ackCode))
+
+-- where a request goes on: kept for its board, or discarded where there is none (01, "Frame")
+abbrev pub routed : Coordinator → Header → List ℕ → ℕ → ℕ → Coordinator
+routed c h p board to =
+    choose (ltb 0 to) (withPhase (keeping c (keptOf h p)) (ForwardDue to board)) (withPhase c Resting)
+
+-- what an accepted ACK does: it ends its wait, except after a forward (01, "Frame")
+abbrev pub acked : Exchange → ℕ → ℕ → Coordinator → List Node → After
+acked Offer board requester c t = accepted (withPhase c Resting) t rests []
+acked Listing board requester c t = accepted (withPhase c Resting) t rests []
+acked Forward board requester c t = accepted (withPhase c (Awaiting board Forward requester true)) t (waits board Forward) []
+acked Return board requester c t = accepted (withPhase c Resting) t rests []
+
+-- what each accepted frame does (01, "Frame"): an ACK; the list's echo; a request for the host; a request to route; the response to a forward, which is to be returned
+abbrev pub takenAs : Heard → Exchange → ℕ → ℕ → Coordinator → List Node → Header → List ℕ → ℕ → After
+takenAs Ack exchange board requester c t h p room = acked exchange board requester c (hearAck t board (ackSession p))
+takenAs Echo exchange board requester c t h p room = acking c t board room transmits (withPhase c Resting)
+takenAs Deliver exchange board requester c t h p room = acking c t board room delivers (withPhase c Resting)
+takenAs Route exchange board requester c t h p room = acking c t board room transmits (routed c h p board (routeOf t (c .setup .k) board (h .method) (h .parameter1)))
+takenAs Answer exchange board requester c t h p room = acking c t board room transmits (withPhase (keeping c (keptOf h p)) (ReturnDue requester))
+takenAs (Refused r) exchange board requester c t h p room = refused c t r
+
+abbrev pub takenIn : Phase → Coordinator → List Node → Header → List ℕ → ℕ → After
+takenIn Resting c t h p room = refused c t NotAwaited
+takenIn (Awaiting board exchange requester acked) c t h p room = takenAs (heardIn exchange board acked c t h p) exchange board requester c t h p room
+takenIn (ForwardDue board requester) c t h p room = refused c t NotAwaited
+takenIn (ReturnDue board) c t h p room = refused c t NotAwaited
+takenIn Unknown c t h p room = refused c t NotAwaited
+
+-- when bytes are refused before a wait looks at them: 22, then 1 to 6 (01, "Order"); 7 to 9 and then 11 follow in `takenIn`
+abbrev pub receiveRules : Phase → Coordinator → List Node → List ℕ → List (Bool × Refusal)
+receiveRules phase c t b =
+    (not (fits c t), StateUnfit) ∷
+    (readRules b ++
+    (not (eqb (headerOf b .destination) 255), NotForUs) ∷ (not (awaits phase (c .setup) (headerOf b .source)), NotAwaited) ∷ [])
+
+unfoldable pub receiveIn : Phase → Coordinator → List Node → List ℕ → ℕ → After
+receiveIn phase c t b room = ruled (receiveRules phase c t b) (refused c t) (takenIn phase c t (headerOf b) (payload b) room)
+
+abbrev pub receiveOf : Coordinator → List Node → List ℕ → ℕ → After
+receiveOf c t b room = receiveIn (phaseOf (c .stand)) c t b room

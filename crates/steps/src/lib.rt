@@ -1,0 +1,58 @@
+// What a step is told and what it gives. The rules of the steps themselves are the definitions of specs/; the code that
+// meets them stands in the crates start, join, turn, receive and quiet.
+use board::Table;
+use coordinator::Coordinator;
+use coordinator::Exchange;
+use refusal::Refusal;
+ghost use mathlib.Core.Path.{_≡_};
+ghost use Rattle.steps.specs.After.{shown, shows, refused};
+
+// What happens to the panel: a board has joined, it is the panel's turn, bytes came in, nothing came in.
+pub enum Event {
+    Join { kind: u8, mac: u64, session: u64 },
+    Turn,
+    Frame,
+    Quiet,
+}
+
+// What the panel now does.
+pub enum Answer {
+    Wait(usize, Exchange),
+    Deliver,
+    Transmit,
+    Rest,
+    Refuse(Refusal),
+}
+
+// The answer, the count of bytes written, the position joined and the position dropped, 0 for none.
+pub struct Outcome {
+    pub answer: Answer,
+    pub written: usize,
+    pub joined: usize,
+    pub dropped: usize,
+}
+
+// What a step leaves.
+pub struct Stepped {
+    pub coordinator: Coordinator,
+    pub table: Table,
+    pub outcome: Outcome,
+}
+
+// A step that refuses: all is as it was, and nothing is written.
+pub fn refusing(coordinator: Coordinator, table: Table, refusal: Refusal) -> Stepped
+    ensures { λ r. ⌜ shown r ≡ shows (refused coordinator (table .nodes) refusal) ⌝ }
+{
+    let answer = Answer::Refuse(refusal);
+    let outcome = Outcome {
+        answer: answer,
+        written: 0,
+        joined: 0,
+        dropped: 0,
+    };
+    Stepped {
+        coordinator: coordinator,
+        table: table,
+        outcome: outcome,
+    }
+}

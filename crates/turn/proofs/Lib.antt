@@ -1,0 +1,4 @@
+pub mod Sending
+pub mod Turns
+pub mod Transmissions
+pub mod Unique

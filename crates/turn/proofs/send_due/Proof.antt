@@ -1,0 +1,64 @@
+-- `turn::send_due` meets its contract, phase by phase.
+use mathlib.Core.Path.{ap}
+use denote.Ref.{now}
+use Rattle.coordinator.specs.declared.Phase.{Phase}
+use Rattle.steps.specs.Turn.{dueIn}
+use Rattle.turn.proofs.Sending.{leaves-due, own-due}
+use borrow.Author.Needs.{needs}
+use Rattle.turn.proofs.send_due.Statement.{statement}
+use Rattle.turn.proofs.send_due.Tie as tie
+
+enum-known-phase : tie.Need-enum-known-phase
+enum-known-phase c = search needs
+
+send-return-requires : tie.Need-send-return-requires
+send-return-requires c κs = search needs
+
+enum-known-phase-2 : tie.Need-enum-known-phase-2
+enum-known-phase-2 c = search needs
+
+send-forward-requires : tie.Need-send-forward-requires
+send-forward-requires c κs = search needs
+
+send-own-requires : tie.Need-send-own-requires
+send-own-requires c κs = search needs
+
+same-length : tie.Need-same-length
+same-length c = search needs
+
+returns : tie.Need-returns
+returns c =
+    let args = c .before .before .before .before .before .before .before .before .args in
+    leaves-due (args .coordinator) (args .table .nodes) (c .before .before .send-return .result) (now (args .out)) _ (ap (λ (p : Phase). dueIn p (args .coordinator) (args .table .nodes)) (c .before .before .before .before .before .phase .given .1)) (c .before .before .send-return .ensures)
+
+same-length-2 : tie.Need-same-length-2
+same-length-2 c = search needs
+
+returns-2 : tie.Need-returns-2
+returns-2 c =
+    let args = c .before .before .before .before .before .before .before .before .args in
+    leaves-due (args .coordinator) (args .table .nodes) (c .before .before .send-forward .result) (now (args .out)) _ (ap (λ (p : Phase). dueIn p (args .coordinator) (args .table .nodes)) (c .before .before .before .before .before .phase2 .given .1)) (c .before .before .send-forward .ensures)
+
+same-length-3 : tie.Need-same-length-3
+same-length-3 c = search needs
+
+returns-3 : tie.Need-returns-3
+returns-3 c =
+    let args = c .before .before .before .before .before .before .args in
+    leaves-due (args .coordinator) (args .table .nodes) (c .before .before .send-own .result) (now (args .out)) _ (own-due (args .coordinator) (args .table .nodes) (args .phase) (c .before .before .before .before .match .keys3)) (c .before .before .send-own .ensures)
+
+pub send-due-spec : {M : Type 1} → statement M
+send-due-spec =
+    tie.close
+    (tie.spec
+    enum-known-phase
+    send-return-requires
+    enum-known-phase-2
+    send-forward-requires
+    send-own-requires
+    same-length
+    returns
+    same-length-2
+    returns-2
+    same-length-3
+    returns-3)

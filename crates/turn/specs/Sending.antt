@@ -1,0 +1,30 @@
+-- What one transmission leaves (01, "Turn"), as the functions behind `turn` promise it; what is due is said in steps/specs/Turn.antt.
+use Prim.Native.Nat.{ℕ, _+_}
+use mathlib.Core.Path.{_≡_}
+use mathlib.Core.List.{List}
+use lib.ListN.{length}
+use lib.Dec.{ltb}
+use Rattle.ground.specs.Bytes.{laid}
+use Rattle.ground.specs.Choose.{choose}
+use Rattle.refusal.specs.declared.Refusal.the-variants.{NoRoom}
+use Rattle.frame.specs.declared.Writing.{Writing}
+use Rattle.frame.specs.declared.Writing.the-variants.{Written, Refused as NotWritten}
+use Rattle.board.specs.declared.Node.{Node}
+use Rattle.coordinator.specs.declared.Coordinator.{Coordinator}
+use Rattle.coordinator.specs.declared.Exchange.{Exchange}
+use Rattle.steps.specs.declared.Stepped.{Stepped}
+use Rattle.steps.specs.After.{After, Shown, shown, shows, refused, waits}
+use Rattle.steps.specs.Turn.{Due, sent}
+
+-- a function leaves this: the caller is shown it, and its bytes stand at the front of the output
+abbrev pub Leaves : After → Stepped → List ℕ → List ℕ → Type 0
+Leaves a r before after = (shown r ≡ shows a) × (after ≡ laid (a .bytes) before)
+
+-- what is due is written and its board waited for, or refused 11 where there is no room for it (01, "Turn" and number 11)
+unfoldable pub sending : Due → Coordinator → List Node → ℕ → After
+sending d c t room = choose (ltb room (12 + length (d .payload))) (refused c t NoRoom) (sent d)
+
+-- what the caller is shown of a transmission, by what its writing gave: the wait with coordinator and records as they are then, or the refusal with both as they were
+abbrev pub shownOf : Writing → Coordinator → List Node → Coordinator → List Node → ℕ → Exchange → Shown
+shownOf (Written n) c t next nodes board exchange = record { coordinator = next; nodes = nodes; says = waits board exchange; written = n; joined = 0; dropped = 0 }
+shownOf (NotWritten q) c t next nodes board exchange = shows (refused c t q)

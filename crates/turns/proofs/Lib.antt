@@ -1,0 +1,11 @@
+pub mod Numbers
+pub mod Moves
+pub mod Quiet
+pub mod Turn
+pub mod Join
+pub mod Frame
+pub mod Turned
+pub mod Counted
+pub mod RoundRobin
+pub mod NeverStuck
+pub mod Bounded

@@ -1,0 +1,49 @@
+-- What refutes each statement of demand 3: a fresh start, and facts about a series from there.
+use Prim.Native.Nat.{ℕ}
+use native.Mathlib.Omega.{arith}
+use mathlib.Core.Path.{_≡_, refl, sym, ap, _∙_}
+use mathlib.Core.Logic.{_⊎_, inl, inr}
+use mathlib.Core.Bool.{true, false, true≢false, false≢true}
+use mathlib.Core.List.{List, []}
+use lib.ListN.{length}
+use lib.Dec.{eqb, leb}
+use borrow.Author.Tests.{eqb-false, leb-true}
+use Rattle.ground.specs.Below.{among}
+use Rattle.board.specs.Table.{at, listedAt}
+use Rattle.board.specs.Wanted.{someListed}
+use Rattle.series.specs.Series.{Input, World, Panel, Fresh, after, isAccepted, offers, accepted, stays}
+use Rattle.series.specs.Observed.{nothing, saw, seen}
+use Rattle.series.specs.Demand.{WhoStays, NoTwoAlike, RoundRobin, Bounded, NeverStuck, Transmits, bound, turnWith, quietWith}
+
+module _ {P : Panel} {k : ℕ} {w : World} (f : Fresh P k w) (is : List Input) where
+  module _ (i : Input) (p : ℕ) where
+    -- a third message in a row went unanswered, and the board is listed still
+    pub outstays : seen P w nothing is .run p ≡ 2 → saw i (P .step (after P w is) i) (seen P w nothing is) .run p ≡ 3 → listedAt (P .step (after P w is) i .nodes) p ≡ true → WhoStays P → ⊥
+    outstays two three listed s = true≢false (sym listed ∙ s .then k w f is i p (two, three) .1)
+
+    -- a board leaves the list, and no message to it went unanswered before this one
+    pub leaves-early : listedAt (after P w is .nodes) p ≡ true → listedAt (P .step (after P w is) i .nodes) p ≡ false → seen P w nothing is .run p ≡ 0 → WhoStays P → ⊥
+    leaves-early listed gone none s = let z : ⊥ = omega (arith, none, s .only k w f is i p (listed, gone) .0) in z
+
+  module _ (js : List Input) (p : ℕ) (boards : List ℕ) where
+    -- a board stays listed and is not among k offers
+    pub passed-over : stays P (after P w is) js p ≡ true → offers P (after P w is) js ≡ boards → leb k (length boards) ≡ true → among p boards ≡ false → RoundRobin P → ⊥
+    passed-over stay made enough absent s =
+        false≢true (sym absent ∙ ap (among p) (sym made) ∙ s k w f is js p stay (rw made (leb-true k (length boards) enough)))
+
+    -- a board stays listed and is not offered the bus in as many accepted steps as the bound says
+    pub starved : stays P (after P w is) js p ≡ true → offers P (after P w is) js ≡ boards → leb (bound k) (accepted P (after P w is) js) ≡ true → among p boards ≡ false → Bounded P → ⊥
+    starved stay made enough absent s =
+        false≢true (sym absent ∙ ap (among p) (sym made) ∙ s k w f is js p stay (leb-true (bound k) (accepted P (after P w is) js) enough))
+
+  -- somebody is listed, a turn writes nothing and a quiet is refused
+  pub stuck : someListed (after P w is .nodes) ≡ true → P .step (after P w is) (turnWith 252) .bytes ≡ [] → isAccepted (P .step (after P w is) (quietWith 252) .says) ≡ false → NeverStuck P → ⊥
+  stuck listed silent waits s = go (s k w f is 252 (omega arith) listed)
+    where
+      go : Transmits P (after P w is) 252 ⊎ (isAccepted (P .step (after P w is) (quietWith 252) .says) ≡ true) → ⊥
+      go (inl sends) = let z : ⊥ = omega (arith, ap length silent, sends .0) in z
+      go (inr ends) = false≢true (sym waits ∙ ends)
+
+  -- two positions are listed with one MAC
+  pub alike : (p q mac : ℕ) → eqb p q ≡ false → listedAt (after P w is .nodes) p ≡ true → listedAt (after P w is .nodes) q ≡ true → at (after P w is .nodes) p .mac ≡ mac → at (after P w is .nodes) q .mac ≡ mac → NoTwoAlike P → ⊥
+  alike p q mac apart here there one other s = eqb-false p q apart (s .macs k w f is p q here there (one ∙ sym other))

@@ -1,0 +1,3 @@
+pub mod Opened
+pub mod Laws
+pub mod Refuted

@@ -1,0 +1,29 @@
+-- All that a series computes with, by one name: to open it opens every definition on its line.
+use Prim.Native.Nat.{ℕ}
+use Rattle.ground.specs.Choose.{choose}
+use Rattle.ground.specs.Below.{all, some, count, upFrom, firstOr, highest, among}
+use Rattle.fletcher.specs.Fletcher.{sumsFrom}
+use Rattle.frame.specs.Frame.{reading, frameOf}
+use Rattle.word.specs.Words.{bytesOf, valueOf, wordAt}
+use Rattle.board.specs.Table.{at, put}
+use Rattle.board.specs.Wanted.{lowestOf, highestListed, indexOf, someListed}
+use Rattle.board.specs.Round.{round, nextListed}
+use Rattle.board.specs.Change.{oweAll}
+use Rattle.setup.specs.Setup.{arePool, address, setupFits}
+use Rattle.setup.specs.Fit.{recordFits, areApart, tableFits}
+use Rattle.nodelist.specs.List.{nodeList, sameByte, sameList}
+use Rattle.message.specs.Message.{toBoard, ownHeader, signed}
+use Rattle.accept.specs.Accept.{isAck, heardAfterOffer, heardAfterList, heardAfterForward, heardAfterReturn}
+use Rattle.coordinator.specs.Phase.{phaseOf, standOf}
+use Rattle.coordinator.specs.Fit.{phaseFits, holdFits, fits}
+use Rattle.steps.specs.Start.{startOf}
+use Rattle.steps.specs.Join.{joinOf}
+use Rattle.steps.specs.Turn.{turnIn}
+use Rattle.steps.specs.Receive.{receiveIn}
+use Rattle.steps.specs.Quiet.{quietIn}
+use Rattle.series.specs.Series.{after, offers, accepted, stays}
+use Rattle.series.specs.Observed.{seen}
+
+unfoldable pub opened : ℕ
+unfolding choose all some count upFrom firstOr highest among sumsFrom reading frameOf bytesOf valueOf wordAt at put lowestOf highestListed indexOf someListed round nextListed oweAll arePool address setupFits recordFits areApart tableFits nodeList sameByte sameList toBoard ownHeader signed isAck heardAfterOffer heardAfterList heardAfterForward heardAfterReturn phaseOf standOf phaseFits holdFits fits startOf joinOf turnIn receiveIn quietIn after offers accepted stays seen
+opened = 0

@@ -1,0 +1,2 @@
+pub mod Wrong
+pub mod Trial

@@ -1,0 +1,96 @@
+-- The series that show what is wrong with a panel.
+use Prim.Native.Nat.{ℕ}
+use mathlib.Core.List.{List, [], _∷_, _++_}
+use Rattle.coordinator.specs.Fresh.{fresh, blankTable}
+use Rattle.steps.specs.declared.Event.the-variants.{Join, Frame}
+use Rattle.steps.specs.Start.{setupOf}
+use Rattle.series.specs.Series.{Input, World, left}
+use Rattle.series.specs.Demand.{turnWith, quietWith}
+use Rattle.series.specs.Ours.{ours}
+
+-- the world before setup, and after one with this pool: subnet 3, internal type 1, MAC 9, session 4
+abbrev pub before : World
+before = record { coordinator = fresh (setupOf [] 0 0 0 0); nodes = blankTable }
+
+abbrev pub begun : List ℕ → World
+begun pool = left (ours .start before pool 3 1 9 4)
+
+-- a pool of one address, and of two
+abbrev pub one : List ℕ
+one = 2 ∷ []
+
+abbrev pub two : List ℕ
+two = 2 ∷ 5 ∷ []
+
+-- what comes to the panel, with room for any frame
+abbrev pub turn : Input
+turn = turnWith 252
+
+abbrev pub quiet : Input
+quiet = quietWith 252
+
+abbrev pub joins : ℕ → ℕ → Input
+joins kind mac = record { event = Join kind mac 1; received = []; room = 252 }
+
+abbrev pub hears : List ℕ → Input
+hears bytes = record { event = Frame; received = bytes; room = 252 }
+
+-- the board at address 2, of type 2 with MAC 7 and session 1: it joins, its ACK (003, Table 49), its echo of the list of itself alone (003, Table 31)
+abbrev pub first : Input
+first = joins 2 7
+
+abbrev pub ack : Input
+ack =
+    hears (255 ∷ 2 ∷ 3 ∷ 0 ∷ 0 ∷ 0 ∷ 2 ∷ 0 ∷ 128 ∷ 17 ∷ 6 ∷ 7 ∷ 0 ∷ 0 ∷ 0 ∷ 0 ∷ 0 ∷ 0 ∷ 0 ∷ 1 ∷ 0 ∷ 0 ∷ 0 ∷ 0 ∷ 0 ∷ 0 ∷ 0 ∷ 105 ∷ 69 ∷ [])
+
+abbrev pub echo : Input
+echo = hears (255 ∷ 2 ∷ 3 ∷ 0 ∷ 0 ∷ 0 ∷ 2 ∷ 148 ∷ 0 ∷ 2 ∷ 1 ∷ 2 ∷ 131 ∷ 49 ∷ [])
+
+-- another board: it joins, its request for the host from address 5, type 1 with method 0
+abbrev pub second : Input
+second = joins 5 8
+
+abbrev pub request : Input
+request = hears (255 ∷ 5 ∷ 3 ∷ 0 ∷ 0 ∷ 0 ∷ 5 ∷ 1 ∷ 0 ∷ 0 ∷ 64 ∷ 7 ∷ [])
+
+-- it misses twice, and has a third message; it misses twice, answers, and has another message
+abbrev pub missesTwice : List Input
+missesTwice = first ∷ turn ∷ quiet ∷ turn ∷ quiet ∷ turn ∷ []
+
+abbrev pub answersBetween : List Input
+answersBetween = missesTwice ++ ack ∷ turn ∷ []
+
+-- the same, with another board's request in place of its answer
+abbrev pub anotherBetween : List Input
+anotherBetween = missesTwice ++ request ∷ turn ∷ []
+
+-- it has its list, and twelve times there is quiet
+abbrev pub listed : List Input
+listed = first ∷ turn ∷ []
+
+abbrev pub twelveQuiets : List Input
+twelveQuiets =
+    quiet ∷ quiet ∷ quiet ∷ quiet ∷ quiet ∷ quiet ∷ quiet ∷ quiet ∷ quiet ∷ quiet ∷ quiet ∷ quiet ∷ []
+
+-- it is offered the bus, and has not answered
+abbrev pub offeredOnce : List Input
+offeredOnce = first ∷ turn ∷ quiet ∷ turn ∷ []
+
+-- it joins again after that
+abbrev pub joinsAgain : List Input
+joinsAgain = offeredOnce ++ quiet ∷ first ∷ []
+
+-- it has had its list and an offer; six lists more
+abbrev pub firstRound : List Input
+firstRound = first ∷ turn ∷ echo ∷ turn ∷ ack ∷ []
+
+abbrev pub sixLists : List Input
+sixLists = turn ∷ echo ∷ turn ∷ echo ∷ turn ∷ echo ∷ turn ∷ echo ∷ turn ∷ echo ∷ turn ∷ echo ∷ []
+
+-- two boards; then two lists and an offer, the first board joins again, two lists and an offer
+abbrev pub bothJoin : List Input
+bothJoin = first ∷ turn ∷ quiet ∷ turn ∷ ack ∷ second ∷ []
+
+abbrev pub twoOffers : List Input
+twoOffers =
+    turn ∷ quiet ∷ turn ∷ quiet ∷ turn ∷ ack ∷ first ∷ turn ∷ quiet ∷ turn ∷ quiet ∷ turn ∷ []

@@ -1,0 +1,111 @@
+-- Wrong panels, each ours with one change: the errors that the rule book names (01, "Agreement between code and promise" and "Errors that look reasonable").
+use Prim.Native.Nat.{ℕ}
+use mathlib.Core.Bool.{Bool, _&&_}
+use mathlib.Core.List.{List, []}
+use lib.ListN.{getD}
+use lib.Dec.{eqb}
+use Rattle.ground.specs.Choose.{choose}
+use Rattle.refusal.specs.declared.Refusal.the-variants.{NotWaiting}
+use Rattle.frame.specs.Frame.{headerOf}
+use Rattle.board.specs.declared.Node.{Node}
+use Rattle.board.specs.declared.Wanted.the-variants.{Listed, Free}
+use Rattle.board.specs.Table.{at, put}
+use Rattle.board.specs.Wanted.{lowestOf}
+use Rattle.board.specs.Change.{oweAll}
+use Rattle.coordinator.specs.declared.Coordinator.{Coordinator}
+use Rattle.coordinator.specs.declared.Phase.the-variants.{Resting}
+use Rattle.coordinator.specs.Phase.{phaseOf}
+use Rattle.coordinator.specs.Change.{withPhase}
+use Rattle.steps.specs.declared.Event.{Event}
+use Rattle.steps.specs.declared.Event.the-variants.{Join, Turn, Frame, Quiet}
+use Rattle.steps.specs.After.{After, refused, accepted, rests}
+use Rattle.steps.specs.Turn.{dueOffer, sent}
+use Rattle.steps.specs.Receive.{payload, takenIn}
+use Rattle.series.specs.Series.{Input, World, Panel, isAccepted, offeredTo}
+use Rattle.series.specs.Ours.{ours}
+
+-- the steps in the rule book's order (01, "The steps are join, turn, frame and quiet")
+abbrev stepNumber : Event → ℕ
+stepNumber (Join kind mac session) = 1
+stepNumber Turn = 2
+stepNumber Frame = 3
+stepNumber Quiet = 4
+
+-- a panel that starts as ours does
+abbrev pub stepping : (World → Input → After) → Panel
+stepping step = record { start = ours .start; step = step }
+
+-- ours, but for one kind of step: what that leaves is made of the world before it, the input, and what ours leaves
+abbrev pub changedAt : Event → (World → Input → After → After) → Panel
+changedAt event change =
+    stepping (λ w i. choose (eqb (stepNumber (i .event)) (stepNumber event)) (change w i (ours .step w i)) (ours .step w i))
+
+-- what a step leaves, but for the coordinator and the records
+abbrev leaving : After → Coordinator → List Node → After
+leaving a c t = record { coordinator = c; nodes = t; says = a .says; bytes = a .bytes; joined = a .joined; dropped = a .dropped }
+
+-- a round is made: the last one offered the bus is the last position
+abbrev roundMade : Coordinator → Bool
+roundMade c = eqb (c .last) (c .setup .k)
+
+-- "A Quiet that does nothing": the wait ends, and no miss is counted
+abbrev pub quietDoesNothing : Panel
+quietDoesNothing = changedAt Quiet (λ w i a. leaving a (a .coordinator) (w .nodes))
+
+-- the same words, to the letter: not even the wait ends
+abbrev pub quietChangesNothing : Panel
+quietChangesNothing = changedAt Quiet (λ w i a. leaving a (w .coordinator) (w .nodes))
+
+-- "or never drops": where ours drops the board, the wait ends and its two misses stay
+abbrev pub quietNeverDrops : Panel
+quietNeverDrops =
+    changedAt Quiet (λ w i a. choose (eqb (a .dropped) 0) a (accepted (withPhase (w .coordinator) Resting) (w .nodes) rests []))
+
+-- an offer to the lowest listed position
+abbrev lowestOffered : World → After
+lowestOffered w = sent (dueOffer (w .coordinator) (w .nodes) (lowestOf (w .nodes) Listed (w .coordinator .setup .k)))
+
+-- "an offer that always names one board"
+abbrev pub offersOneBoard : Panel
+offersOneBoard = changedAt Turn (λ w i a. choose (eqb (offeredTo (a .says)) 0) a (lowestOffered w))
+
+-- "a panel that behaves for one round and then only looks busy": after the round each frame that is accepted owes the list to all again
+abbrev pub onlyLooksBusy : Panel
+onlyLooksBusy =
+    changedAt Frame (λ w i a. choose (isAccepted (a .says) && roundMade (w .coordinator)) (leaving a (a .coordinator) (oweAll (a .nodes))) a)
+
+-- the same words: after the round it ends no wait
+abbrev pub waitsForEver : Panel
+waitsForEver = changedAt Quiet (λ w i a. choose (roundMade (w .coordinator)) (refused (w .coordinator) (w .nodes) NotWaiting) a)
+
+-- board p with the misses that it had before
+abbrev missesKept : List Node → List Node → ℕ → Node
+missesKept before t p =
+    record { kind = at t p .kind; mac = at t p .mac; session = at t p .session; misses = at before p .misses; owed = at t p .owed }
+
+-- "Counting misses since joining and not since last heard": a frame does not clear the misses of the board that is waited for
+abbrev pub countsSinceJoining : Panel
+countsSinceJoining =
+    changedAt Frame (λ w i a. leaving a (a .coordinator) (put (a .nodes) (w .coordinator .stand .board) (missesKept (w .nodes) (a .nodes) (w .coordinator .stand .board))))
+
+-- as at a fresh start, nobody was offered the bus
+abbrev fromFirst : Coordinator → Coordinator
+fromFirst c = record { setup = c .setup; last = 0; held = c .held; stand = c .stand; kept = c .kept }
+
+-- "Restarting the offer round at position 1 after every list": an answer that waits in exchange 2 is a list's
+abbrev pub restartsRound : Panel
+restartsRound =
+    changedAt Turn (λ w i a. choose (eqb (getD (a .says .values) 2 0) 2) (leaving a (fromFirst (a .coordinator)) (a .nodes)) a)
+
+-- "Letting a frame from another board end the wait": a frame that ours refuses for its source alone, 6, is taken
+abbrev pub hearsAnyone : Panel
+hearsAnyone =
+    changedAt Frame (λ w i a. choose (eqb (a .says .number) 6) (takenIn (phaseOf (w .coordinator .stand)) (w .coordinator) (w .nodes) (headerOf (i .received)) (payload (i .received)) (i .room)) a)
+
+-- the record of the board that joined, at the lowest position that was free
+abbrev joinedAnew : World → After → List Node
+joinedAnew w a = oweAll (put (w .nodes) (lowestOf (w .nodes) Free (w .coordinator .setup .k)) (at (a .nodes) (a .joined)))
+
+-- against "A listed MAC has its address again" (01, "Join"): it gets the lowest free position, as a new one does
+abbrev pub listsTwice : Panel
+listsTwice = changedAt (Join 0 0 0) (λ w i a. choose (isAccepted (a .says)) (leaving a (a .coordinator) (joinedAnew w a)) a)
