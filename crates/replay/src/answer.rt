@@ -25,13 +25,10 @@ pub(crate) fn write_number(words: &[u8], n: u64) {
     write(b"\n");
 }
 
-// The hex digit of a number below 16.
+// The hex digit of a number's last four bits.
 fn glyph(n: u8) -> u8 {
-    match n {
-        0..=9 => 48 + n,
-        10..=15 => 55 + n,
-        _ => 63,
-    }
+    let low = n % 16;
+    if low < 10 { 48 + low } else { 55 + low }
 }
 
 // Spells bytes in hex, two digits a byte, as many as there is room for, and counts the digits.
@@ -42,7 +39,7 @@ fn spell(bytes: &[u8], text: &mut [u8]) -> usize
     let mut i: usize = 0;
     while i < n {
         text[2 * i] = glyph(bytes[i] / 16);
-        text[2 * i + 1] = glyph(bytes[i] % 16);
+        text[2 * i + 1] = glyph(bytes[i]);
         i += 1;
     }
     2 * n

@@ -1,11 +1,12 @@
 // Plays a script of steps on the panel, a line at a time, and answers each line (docs/REPLAY.md has the script's words).
 mod answer;
-mod parse;
+mod order;
+mod words;
 
 use board::Table;
 use coordinator::Coordinator;
 use libc::STDIN_FILENO;
-use parse::Order;
+use order::Order;
 use setup::Setup;
 use steps::Event;
 use steps::Stepped;
@@ -28,16 +29,10 @@ fn no_setup() -> Setup {
     }
 }
 
+// What a step leaves to play on.
 fn left(stepped: Stepped) -> World {
     let c = stepped.coordinator;
     let t = stepped.table;
-    World {
-        coordinator: c,
-        table: t,
-    }
-}
-
-fn as_it_was(c: Coordinator, t: Table) -> World {
     World {
         coordinator: c,
         table: t,
@@ -51,9 +46,10 @@ fn set_up(
     internal: u8,
     mac: u64,
     session: u64,
-    c: Coordinator,
-    t: Table,
+    world: World,
 ) -> World {
+    let c = world.coordinator;
+    let t = world.table;
     let stepped = start::start(c, t, addresses, subnet, internal, mac, session);
     let outcome = stepped.outcome;
     answer::started(outcome, addresses.len());
@@ -61,26 +57,29 @@ fn set_up(
 }
 
 // One step, with the bytes received and this output, answered.
-fn step_with(event: Event, received: &[u8], out: &mut [u8], c: Coordinator, t: Table) -> World {
+fn step_with(event: Event, received: &[u8], out: &mut [u8], world: World) -> World {
+    let c = world.coordinator;
+    let t = world.table;
     let stepped = stepping::step(c, t, event, received, out);
     let outcome = stepped.outcome;
-    let written = parse::within(outcome.written, out);
+    let written = words::within(outcome.written, out);
     answer::stepped(outcome, &out[..written]);
     left(stepped)
 }
 
 // One step with this much room.
-fn step(event: Event, received: &[u8], room: usize, c: Coordinator, t: Table) -> World {
+fn step(event: Event, received: &[u8], room: usize, world: World) -> World {
     let mut out = [0u8; 1024];
-    let n = parse::within(room, &out);
-    step_with(event, received, &mut out[..n], c, t)
+    let n = words::within(room, &out);
+    step_with(event, received, &mut out[..n], world)
 }
 
-fn play_line(line: &[u8], number: u64, c: Coordinator, t: Table) -> World {
+// Plays one line and answers it.
+fn play_line(line: &[u8], number: u64, world: World) -> World {
     let mut bytes = [0u8; 1024];
-    let order = parse::read_line(line, &mut bytes);
+    let order = order::read_line(line, &mut bytes);
     match order {
-        Order::Pass => as_it_was(c, t),
+        Order::Pass => world,
         Order::Setup {
             subnet,
             internal,
@@ -88,36 +87,37 @@ fn play_line(line: &[u8], number: u64, c: Coordinator, t: Table) -> World {
             session,
             count,
         } => {
-            let n = parse::within(count, &bytes);
-            set_up(&bytes[..n], subnet, internal, mac, session, c, t)
+            let n = words::within(count, &bytes);
+            set_up(&bytes[..n], subnet, internal, mac, session, world)
         }
         Order::Step { event, room, count } => {
-            let n = parse::within(count, &bytes);
-            step(event, &bytes[..n], room, c, t)
+            let n = words::within(count, &bytes);
+            step(event, &bytes[..n], room, world)
         }
         Order::Table => {
-            answer::listing(c, t);
-            as_it_was(c, t)
+            answer::listing(world.coordinator, world.table);
+            world
         }
         Order::Bad => {
             answer::write_number(b"bad line ", number);
-            as_it_was(c, t)
+            world
         }
     }
 }
 
+// Plays the lines from first to last.
 fn play(script: &[u8]) {
-    let mut c = coordinator::fresh(no_setup());
-    let mut t = coordinator::blank_table();
+    let mut world = World {
+        coordinator: coordinator::fresh(no_setup()),
+        table: coordinator::blank_table(),
+    };
     let mut number: u64 = 0;
     let mut at: usize = 0;
     while at < script.len() {
         let rest = &script[at..];
-        let n = parse::before(rest, b'\n');
+        let n = words::before(rest, b'\n');
         number += 1;
-        let world = play_line(&rest[..n], number, c, t);
-        c = world.coordinator;
-        t = world.table;
+        world = play_line(&rest[..n], number, world);
         let end = at + n;
         at = end + 1;
     }

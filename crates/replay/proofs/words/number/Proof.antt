@@ -1,9 +1,9 @@
--- `replay::parse::number` ends, having read no byte past the last.
+-- `replay::words::number` ends, having read no byte past the last.
 use Prim.Native.Nat.{_-_, _≤_}
 use lib.ListN.{length}
 use borrow.Author.Needs.{needs}
-use Rattle.replay.proofs.parse.number.Statement.{statement}
-use Rattle.replay.proofs.parse.number.Tie as tie
+use Rattle.replay.proofs.words.number.Statement.{statement}
+use Rattle.replay.proofs.words.number.Tie as tie
 
 abbrev Inv-loop : tie.InvT-loop
 Inv-loop word f₀ i₀ f i = i ≤ length word

@@ -1,9 +1,9 @@
--- `replay::parse::within` meets its contract: the smaller of the two is a count of the text.
+-- `replay::words::within` meets its contract: the smaller of the two is a count of the text.
 use native.Mathlib.Omega.{arith}
 use Rattle.io.proofs.Counting.{counts}
 use borrow.Author.Needs.{needs}
-use Rattle.replay.proofs.parse.within.Statement.{statement}
-use Rattle.replay.proofs.parse.within.Tie as tie
+use Rattle.replay.proofs.words.within.Statement.{statement}
+use Rattle.replay.proofs.words.within.Tie as tie
 
 least-requires : tie.Need-least-requires
 least-requires c κs = search needs

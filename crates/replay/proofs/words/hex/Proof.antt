@@ -1,10 +1,10 @@
--- `replay::parse::hex` ends, having read and written inside the slices.
+-- `replay::words::hex` ends, having read and written inside the slices.
 use Prim.Native.Nat.{_-_, _≤_}
 use mathlib.Core.Path.{_≡_}
 use lib.ListN.{length}
 use borrow.Author.Needs.{needs}
-use Rattle.replay.proofs.parse.hex.Statement.{statement}
-use Rattle.replay.proofs.parse.hex.Tie as tie
+use Rattle.replay.proofs.words.hex.Statement.{statement}
+use Rattle.replay.proofs.words.hex.Tie as tie
 
 abbrev Inv-loop : tie.InvT-loop
 Inv-loop word out₀ pairs n ok₀ i₀ out ok i = (i ≤ n) × (length out ≡ length out₀)

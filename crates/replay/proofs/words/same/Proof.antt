@@ -1,9 +1,9 @@
--- `replay::parse::same` ends, having read no byte past the last of either.
+-- `replay::words::same` ends, having read no byte past the last of either.
 use Prim.Native.Nat.{_-_, _≤_}
 use lib.ListN.{length}
 use borrow.Author.Needs.{needs}
-use Rattle.replay.proofs.parse.same.Statement.{statement}
-use Rattle.replay.proofs.parse.same.Tie as tie
+use Rattle.replay.proofs.words.same.Statement.{statement}
+use Rattle.replay.proofs.words.same.Tie as tie
 
 abbrev Inv-loop : tie.InvT-loop
 Inv-loop a b ok₀ i₀ ok i = i ≤ length b

@@ -1,10 +1,10 @@
--- `replay::parse::before` ends, with a place inside the text.
+-- `replay::words::before` ends, with a place inside the text.
 use Prim.Native.Nat.{_-_, _≤_}
 use lib.ListN.{length}
 use Rattle.io.proofs.Counting.{counts}
 use borrow.Author.Needs.{needs}
-use Rattle.replay.proofs.parse.before.Statement.{statement}
-use Rattle.replay.proofs.parse.before.Tie as tie
+use Rattle.replay.proofs.words.before.Statement.{statement}
+use Rattle.replay.proofs.words.before.Tie as tie
 
 abbrev Inv-loop : tie.InvT-loop
 Inv-loop text mark i₀ i = i ≤ length text

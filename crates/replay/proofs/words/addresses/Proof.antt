@@ -1,11 +1,11 @@
--- `replay::parse::addresses` ends: each word begins past the one before.
+-- `replay::words::addresses` ends: each word begins past the one before.
 use Prim.Native.Nat.{_+_, _-_, _≤_}
 use mathlib.Core.Path.{_≡_}
 use native.Mathlib.Omega.{arith}
 use lib.ListN.{length}
 use borrow.Author.Needs.{needs}
-use Rattle.replay.proofs.parse.addresses.Statement.{statement}
-use Rattle.replay.proofs.parse.addresses.Tie as tie
+use Rattle.replay.proofs.words.addresses.Statement.{statement}
+use Rattle.replay.proofs.words.addresses.Tie as tie
 
 abbrev Inv-loop : tie.InvT-loop
 Inv-loop line at out₀ n₀ ok₀ from₀ out n ok from = (n ≤ from) × (length out ≡ length out₀)

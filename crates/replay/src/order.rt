@@ -1,0 +1,177 @@
+// What a line asks for, read off its words before anything is played.
+use crate::words;
+use crate::words::Count;
+use steps::Event;
+
+// The first words.
+enum Word {
+    Setup,
+    Join,
+    Turn,
+    Frame,
+    Quiet,
+    Table,
+    Other,
+}
+
+// What a line asks for; the addresses and the frame stand in the bytes beside it, as many as it says.
+pub(crate) enum Order {
+    Pass,
+    Setup {
+        subnet: u8,
+        internal: u8,
+        mac: u64,
+        session: u64,
+        count: usize,
+    },
+    Step {
+        event: Event,
+        room: usize,
+        count: usize,
+    },
+    Table,
+    Bad,
+}
+
+// Three of the six words; `word_of` has the others, and asks here last.
+fn later_word(word: &[u8]) -> Word {
+    if words::same(word, b"frame") {
+        return Word::Frame;
+    }
+    if words::same(word, b"quiet") {
+        return Word::Quiet;
+    }
+    if words::same(word, b"table") {
+        return Word::Table;
+    }
+    Word::Other
+}
+
+fn word_of(word: &[u8]) -> Word {
+    if words::same(word, b"setup") {
+        return Word::Setup;
+    }
+    if words::same(word, b"join") {
+        return Word::Join;
+    }
+    if words::same(word, b"turn") {
+        return Word::Turn;
+    }
+    later_word(word)
+}
+
+// setup SUBNET INTERNAL MAC SESSION ADDRESS...
+fn read_setup(line: &[u8], bytes: &mut [u8]) -> Order {
+    let subnet = words::field_at(line, 6, 255);
+    let internal = words::field_at(line, subnet.next, 255);
+    let mac = words::field_at(line, internal.next, words::ANY);
+    let session = words::field_at(line, mac.next, words::ANY);
+    let n = words::addresses(line, session.next, bytes);
+    if subnet.ok & internal.ok & mac.ok & session.ok & n.ok {
+        Order::Setup {
+            subnet: words::byte(subnet.value),
+            internal: words::byte(internal.value),
+            mac: mac.value,
+            session: session.value,
+            count: n.value,
+        }
+    } else {
+        Order::Bad
+    }
+}
+
+// join TYPE MAC SESSION
+fn read_join(line: &[u8]) -> Order {
+    let kind = words::field_at(line, 5, 255);
+    let mac = words::field_at(line, kind.next, words::ANY);
+    let session = words::field_at(line, mac.next, words::ANY);
+    if kind.ok & mac.ok & session.ok & (line.len() < session.next) {
+        let event = Event::Join {
+            kind: words::byte(kind.value),
+            mac: mac.value,
+            session: session.value,
+        };
+        Order::Step {
+            event: event,
+            room: 0,
+            count: 0,
+        }
+    } else {
+        Order::Bad
+    }
+}
+
+// turn ROOM
+fn read_turn(line: &[u8]) -> Order {
+    let room = words::field_at(line, 5, 1024);
+    if room.ok & (line.len() < room.next) {
+        Order::Step {
+            event: Event::Turn,
+            room: room.value as usize,
+            count: 0,
+        }
+    } else {
+        Order::Bad
+    }
+}
+
+// The bytes of a frame from here on; none past the end of the line, which is the empty frame.
+fn frame_from(line: &[u8], at: usize, bytes: &mut [u8]) -> Count {
+    if at <= line.len() {
+        words::hex(&line[at..], bytes)
+    } else {
+        Count { value: 0, ok: true }
+    }
+}
+
+// frame ROOM HEX
+fn read_frame(line: &[u8], bytes: &mut [u8]) -> Order {
+    let room = words::field_at(line, 6, 1024);
+    let n = frame_from(line, room.next, bytes);
+    if room.ok & n.ok {
+        Order::Step {
+            event: Event::Frame,
+            room: room.value as usize,
+            count: n.value,
+        }
+    } else {
+        Order::Bad
+    }
+}
+
+// A line that is one word.
+fn alone(line: &[u8], order: Order) -> Order {
+    if line.len() == 5 { order } else { Order::Bad }
+}
+
+fn read_words(line: &[u8], bytes: &mut [u8]) -> Order {
+    let n = words::before(line, b' ');
+    let word = word_of(&line[..n]);
+    match word {
+        Word::Setup => read_setup(line, bytes),
+        Word::Join => read_join(line),
+        Word::Turn => read_turn(line),
+        Word::Frame => read_frame(line, bytes),
+        Word::Quiet => alone(
+            line,
+            Order::Step {
+                event: Event::Quiet,
+                room: 0,
+                count: 0,
+            },
+        ),
+        Word::Table => alone(line, Order::Table),
+        Word::Other => Order::Bad,
+    }
+}
+
+// What a line asks for. An empty line and one that begins with # ask for nothing.
+pub(crate) fn read_line(line: &[u8], bytes: &mut [u8]) -> Order {
+    if line.len() == 0 {
+        return Order::Pass;
+    }
+    if line[0] == b'#' {
+        return Order::Pass;
+    }
+    read_words(line, bytes)
+}
