@@ -38,9 +38,9 @@ use Rattle.coordinator.specs.Phase.{phaseOf}
 use Rattle.coordinator.specs.Fit.{fits}
 use Rattle.coordinator.specs.Change.{withPhase}
 use Rattle.steps.specs.declared.Stepped.{Stepped}
-use Rattle.steps.specs.After.{After, Shown, shown, shows, refused, accepted, rests}
+use Rattle.steps.specs.After.{After, Shown, shown, shows, refused, accepted, rests, Leaves}
 use Rattle.steps.specs.Receive.{hear, acking, acked, heardIn, takenAs, payload, receiveIn, receiveOf}
-use Rattle.receive.specs.Parts.{Leaves, accepting, waited, listened}
+use Rattle.receive.specs.Parts.{accepting, waited, listened}
 
 -- what is left of one outcome is left of an equal one
 pub leaves-same : (r : Stepped) (before after : List ℕ) {a b : After} → a ≡ b → Leaves b r before after → Leaves a r before after

@@ -1,10 +1,8 @@
 -- The parts of the step: what its functions leave.
 use Prim.Native.Nat.{ℕ}
-use mathlib.Core.Path.{_≡_}
 use mathlib.Core.Bool.{Bool, not}
 use mathlib.Core.List.{List, [], _∷_}
 use lib.Dec.{eqb}
-use Rattle.ground.specs.Bytes.{laid}
 use Rattle.refusal.specs.Refusal.{Told, ruled}
 use Rattle.refusal.specs.declared.Refusal.the-variants.{NotForUs, NotAwaited}
 use Rattle.frame.specs.declared.Header.{Header}
@@ -13,13 +11,8 @@ use Rattle.setup.specs.Setup.{address}
 use Rattle.coordinator.specs.declared.Coordinator.{Coordinator}
 use Rattle.coordinator.specs.declared.Exchange.{Exchange}
 use Rattle.coordinator.specs.declared.Phase.{Phase}
-use Rattle.steps.specs.declared.Stepped.{Stepped}
-use Rattle.steps.specs.After.{After, Shown, shown, shows, refused}
+use Rattle.steps.specs.After.{After, Shown, refused}
 use Rattle.steps.specs.Receive.{awaits, heardIn, takenAs, takenIn}
-
--- what a step leaves, in its answer and in the output
-abbrev pub Leaves : After → Stepped → List ℕ → List ℕ → Type 0
-Leaves a r before after = (shown r ≡ shows a) × (after ≡ laid (a .bytes) before)
 
 -- what a step that is accepted shows, with so many bytes written
 abbrev pub accepting : Coordinator → List Node → Told → ℕ → Shown

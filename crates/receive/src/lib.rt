@@ -17,9 +17,9 @@ ghost use Prim.Native.Nat.{_≤_};
 ghost use lib.ListN.{length, replicate};
 ghost use Rattle.ground.specs.Bytes.{laid};
 ghost use Rattle.coordinator.specs.Phase.{phaseOf};
-ghost use Rattle.steps.specs.After.{told, shown, shows};
+ghost use Rattle.steps.specs.After.{told, shown, shows, Leaves};
 ghost use Rattle.steps.specs.Receive.{keptOf, hear, hearAck, acked, acking, routed, heardIn, takenAs, receiveOf};
-ghost use Rattle.receive.specs.Parts.{Leaves, accepting, waited, listened};
+ghost use Rattle.receive.specs.Parts.{accepting, waited, listened};
 
 // The payload as it is kept: the bytes, and zeros past them.
 fn payload_of(payload: &[u8]) -> [u8; 240]

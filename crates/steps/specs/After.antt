@@ -2,6 +2,8 @@
 use Prim.Native.Nat.{ℕ}
 use mathlib.Core.List.{List, [], _∷_}
 use lib.ListN.{length}
+use mathlib.Core.Path.{_≡_}
+use Rattle.ground.specs.Bytes.{laid}
 use Rattle.refusal.specs.Refusal.{Told, refuses, gives}
 use Rattle.refusal.specs.declared.Refusal.{Refusal}
 use Rattle.board.specs.declared.Node.{Node}
@@ -87,3 +89,7 @@ shows a =
       joined = a .joined;
       dropped = a .dropped;
     }
+
+-- what a function leaves, in its answer and in the output that it was lent: the caller is shown it, and its bytes stand at the front (01, "On success, output past the frame keeps its bytes")
+abbrev pub Leaves : After → Stepped → List ℕ → List ℕ → Type 0
+Leaves a r before after = (shown r ≡ shows a) × (after ≡ laid (a .bytes) before)

@@ -28,9 +28,9 @@ use Rattle.coordinator.specs.declared.Phase.{Phase}
 use Rattle.coordinator.proofs.Phase as phase
 use Rattle.coordinator.specs.declared.Phase.the-variants.{Resting, Awaiting, ForwardDue, ReturnDue, Unknown}
 use Rattle.steps.specs.declared.Stepped.{Stepped}
-use Rattle.steps.specs.After.{After, Shown, shown, refused, waits}
+use Rattle.steps.specs.After.{After, Shown, shown, refused, waits, Leaves}
 use Rattle.steps.specs.Turn.{Due, dueList, dueOffer, dueOwn, dueIn, owedTo, sent}
-use Rattle.turn.specs.Sending.{Leaves, sending, shownOf}
+use Rattle.turn.specs.Sending.{sending, shownOf}
 
 -- a writing of the header and payload that are due, shown as it came out, leaves what the definition says
 module _ (d : Due) (c : Coordinator) (t : List Node) (r : Stepped) (before after : List ℕ) (small : length (d .payload) ≤ 240) where

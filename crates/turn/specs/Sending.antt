@@ -1,10 +1,8 @@
 -- What one transmission leaves (01, "Turn"), as the functions behind `turn` promise it; what is due is said in steps/specs/Turn.antt.
 use Prim.Native.Nat.{ℕ, _+_}
-use mathlib.Core.Path.{_≡_}
 use mathlib.Core.List.{List}
 use lib.ListN.{length}
 use lib.Dec.{ltb}
-use Rattle.ground.specs.Bytes.{laid}
 use Rattle.ground.specs.Choose.{choose}
 use Rattle.refusal.specs.declared.Refusal.the-variants.{NoRoom}
 use Rattle.frame.specs.declared.Writing.{Writing}
@@ -12,13 +10,8 @@ use Rattle.frame.specs.declared.Writing.the-variants.{Written, Refused as NotWr
 use Rattle.board.specs.declared.Node.{Node}
 use Rattle.coordinator.specs.declared.Coordinator.{Coordinator}
 use Rattle.coordinator.specs.declared.Exchange.{Exchange}
-use Rattle.steps.specs.declared.Stepped.{Stepped}
-use Rattle.steps.specs.After.{After, Shown, shown, shows, refused, waits}
+use Rattle.steps.specs.After.{After, Shown, shows, refused, waits}
 use Rattle.steps.specs.Turn.{Due, sent}
-
--- a function leaves this: the caller is shown it, and its bytes stand at the front of the output
-abbrev pub Leaves : After → Stepped → List ℕ → List ℕ → Type 0
-Leaves a r before after = (shown r ≡ shows a) × (after ≡ laid (a .bytes) before)
 
 -- what is due is written and its board waited for, or refused 11 where there is no room for it (01, "Turn" and number 11)
 unfoldable pub sending : Due → Coordinator → List Node → ℕ → After

@@ -21,9 +21,9 @@ ghost use Rattle.board.specs.Wanted.{indexOf};
 ghost use Rattle.message.specs.Message.{toBoard, Sends};
 ghost use Rattle.coordinator.specs.declared.Exchange.the-variants.{Forward, Return};
 ghost use Rattle.coordinator.specs.Change.{withPhase};
-ghost use Rattle.steps.specs.After.{shown, shows};
+ghost use Rattle.steps.specs.After.{shown, shows, Leaves};
 ghost use Rattle.steps.specs.Turn.{carriedHeader, dueCarried, dueList, dueOffer, dueOwn, dueIn, isAwaiting, turnOf};
-ghost use Rattle.turn.specs.Sending.{Leaves, sending, shownOf};
+ghost use Rattle.turn.specs.Sending.{sending, shownOf};
 
 // The step after a transmission. Where it was written the panel waits for the board, with the coordinator and the records
 // as they are then; where it was not, both are as they were.
