@@ -1,4 +1,5 @@
 -- What the parts of the step leave, by what their tests and calls gave.
+use Rattle.steps.proofs.Shows.{leaves-as}
 use Prim.Native.Nat.{ℕ, _+_, _≤_}
 use native.Mathlib.Omega.{arith}
 use mathlib.Core.Path.{_≡_, refl, sym, ap, subst, _∙_}
@@ -42,13 +43,9 @@ use Rattle.steps.specs.After.{After, Shown, shown, shows, refused, accepted, re
 use Rattle.steps.specs.Receive.{hear, acking, acked, heardIn, takenAs, payload, receiveIn, receiveOf}
 use Rattle.receive.specs.Parts.{accepting, waited, listened}
 
--- what is left of one outcome is left of an equal one
-pub leaves-same : (r : Stepped) (before after : List ℕ) {a b : After} → a ≡ b → Leaves b r before after → Leaves a r before after
-leaves-same r before after e h = subst (λ (x : After). Leaves x r before after) (sym e) h
-
 -- a refusal leaves the output as it was
 pub leaves-refused : (r : Stepped) (o : List ℕ) (c : Coordinator) (t : List Node) (q : Refusal) {a : After} → a ≡ refused c t q → shown r ≡ shows (refused c t q) → Leaves a r o o
-leaves-refused r o c t q e h = leaves-same r o o e (h, refl)
+leaves-refused r o c t q e h = leaves-as r o o e (h, refl)
 
 -- an ACK ends each wait but a forward's
 pub acked-ends : (e : Exchange) (board requester : ℕ) (c : Coordinator) (t : List Node) → OneOf (0 ∷ 1 ∷ 3 ∷ []) (tagOf exchange.the-type e) → acked e board requester c t ≡ accepted (withPhase c Resting) t rests []
@@ -59,7 +56,7 @@ acked-ends Return board requester c t k = refl
 
 -- for an ACK nothing is written
 pub leaves-ack : (r : Stepped) (o : List ℕ) (e : Exchange) (board requester : ℕ) (c : Coordinator) {t u : List Node} → t ≡ u → shown r ≡ shows (acked e board requester c t) → Leaves (acked e board requester c u) r o o
-leaves-ack r o e board requester c {t} {u} q h = leaves-same r o o (ap (acked e board requester c) (sym q)) (silent e h)
+leaves-ack r o e board requester c {t} {u} q h = leaves-as r o o (ap (acked e board requester c) (sym q)) (silent e h)
   where
     silent : (e : Exchange) → shown r ≡ shows (acked e board requester c t) → Leaves (acked e board requester c t) r o o
     silent Offer h = (h, refl)

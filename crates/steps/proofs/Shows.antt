@@ -1,7 +1,7 @@
 -- What an answer says tells it apart, and so what a caller is shown tells what a step left.
 use Prim.Native.Nat.{ℕ}
 use native.Mathlib.Omega.{arith}
-use mathlib.Core.Path.{_≡_, refl, sym, ap, _∙_}
+use mathlib.Core.Path.{_≡_, refl, sym, ap, subst, _∙_}
 use mathlib.Core.List.{List, [], _∷_}
 use lib.ListN.{getD}
 use Rattle.refusal.specs.Refusal.{Told, refuses}
@@ -12,7 +12,7 @@ use Rattle.coordinator.specs.declared.Exchange.the-variants.{Offer, List as Lis
 use Rattle.steps.specs.declared.Answer.{Answer}
 use Rattle.steps.specs.declared.Answer.the-variants.{Wait, Deliver, Transmit, Rest, Refuse}
 use Rattle.steps.specs.declared.Stepped.{Stepped}
-use Rattle.steps.specs.After.{exchangeNumber, told, Shown, shown}
+use Rattle.steps.specs.After.{exchangeNumber, told, After, Shown, shown, Leaves}
 
 -- the exchanges by their numbers
 exchangeAt : ℕ → Exchange
@@ -90,3 +90,7 @@ same-shown r q e =
   where
     answer : r .outcome .answer ≡ q .outcome .answer
     answer = same-told (r .outcome .answer) (q .outcome .answer) (ap (λ (s : Shown). s .says) e)
+
+-- what is left may be said by any equal definition
+pub leaves-as : (r : Stepped) (before after : List ℕ) {a b : After} → a ≡ b → Leaves b r before after → Leaves a r before after
+leaves-as r before after e h = subst (λ (x : After). Leaves x r before after) (sym e) h

@@ -1,4 +1,5 @@
 -- What a transmission leaves, by what its writing gave; which transmission is due.
+use Rattle.steps.proofs.Shows.{leaves-as}
 use Prim.Native.Nat.{ℕ, _+_, _≤_, _<_}
 use native.Mathlib.Omega.{arith}
 use mathlib.Core.Path.{_≡_, refl, sym, ap, subst, _∙_}
@@ -49,9 +50,6 @@ module _ (d : Due) (c : Coordinator) (t : List Node) (r : Stepped) (before after
       go false h l = (told-as (Written (12 + length (d .payload))) h ∙ ap counted (sym (long (d .header) (d .payload))), l)
 
 -- what is left of one step is left of an equal one, and so of one transmission
-pub leaves-as : (r : Stepped) (before after : List ℕ) {a b : After} → a ≡ b → Leaves b r before after → Leaves a r before after
-leaves-as r before after e h = subst (λ (x : After). Leaves x r before after) (sym e) h
-
 pub leaves-due : (c : Coordinator) (t : List Node) (r : Stepped) (before after : List ℕ) {d e : Due} → d ≡ e → Leaves (sending e c t (length before)) r before after → Leaves (sending d c t (length before)) r before after
 leaves-due c t r before after q h = leaves-as r before after (ap (λ (x : Due). sending x c t (length before)) q) h
 

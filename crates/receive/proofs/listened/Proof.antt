@@ -1,7 +1,8 @@
 -- `receive::listened` meets its contract: 5, then 6 where nothing is waited for, else what the wait gets.
+use Rattle.steps.proofs.Shows.{leaves-as}
 use denote.Ref.{now}
 use Rattle.refusal.specs.declared.Refusal.the-variants.{NotForUs, NotAwaited}
-use Rattle.receive.proofs.Leaving.{leaves-same, leaves-refused, listened-not-ours, listened-idle, listened-waited}
+use Rattle.receive.proofs.Leaving.{leaves-refused, listened-not-ours, listened-idle, listened-waited}
 use borrow.Author.Needs.{needs}
 use Rattle.receive.proofs.listened.Statement.{statement}
 use Rattle.receive.proofs.listened.Tie as tie
@@ -32,7 +33,7 @@ same-length c = search needs
 returns-2 : tie.Need-returns-2
 returns-2 c =
     let args = c .before .before .before .before .before .before .before .before .before .before .before .before .args in
-    leaves-same (c .before .before .awaited .result) (now (args .out)) _ (listened-waited (args .coordinator) (args .table .nodes) (args .header) (now (args .payload)) _ (c .before .before .before .before .before .before .before .before .if1 .left) _ _ _ _ (c .before .before .before .before .before .before .before .phase-of .ensures) (c .before .before .before .before .before .board .given .1)) (c .before .before .awaited .ensures)
+    leaves-as (c .before .before .awaited .result) (now (args .out)) _ (listened-waited (args .coordinator) (args .table .nodes) (args .header) (now (args .payload)) _ (c .before .before .before .before .before .before .before .before .if1 .left) _ _ _ _ (c .before .before .before .before .before .before .before .phase-of .ensures) (c .before .before .before .before .before .board .given .1)) (c .before .before .awaited .ensures)
 
 returns-3 : tie.Need-returns-3
 returns-3 c =

@@ -1,7 +1,8 @@
 -- `receive::receive` meets its contract: 22, then the refusals of the reader, then what a good frame gets.
+use Rattle.steps.proofs.Shows.{leaves-as}
 use denote.Ref.{now}
 use Rattle.refusal.specs.declared.Refusal.the-variants.{StateUnfit}
-use Rattle.receive.proofs.Leaving.{leaves-same, leaves-refused, received-unfit, received-unread, received-read, payload-small}
+use Rattle.receive.proofs.Leaving.{leaves-refused, received-unfit, received-unread, received-read, payload-small}
 use borrow.Author.Needs.{needs}
 use Rattle.receive.proofs.receive.Statement.{statement}
 use Rattle.receive.proofs.receive.Tie as tie
@@ -41,7 +42,7 @@ same-length c = search needs
 returns-2 : tie.Need-returns-2
 returns-2 c =
     let args = c .before .before .before .before .before .before .before .before .before .before .before .before .before .args in
-    leaves-same (c .before .before .listened .result) (now (args .out)) _ (received-read (args .coordinator) (args .table .nodes) (now (args .received)) _ (c .before .before .before .before .before .before .before .before .before .before .fits2 .ensures) (c .before .before .before .before .before .before .before .before .before .if1 .left) (c .before .before .before .before .before .before .before .before .read .ensures) (c .before .before .before .before .before .before .header .given .1)) (rw (c .before .before .before .before .payload .ensures) at (c .before .before .listened .ensures))
+    leaves-as (c .before .before .listened .result) (now (args .out)) _ (received-read (args .coordinator) (args .table .nodes) (now (args .received)) _ (c .before .before .before .before .before .before .before .before .before .before .fits2 .ensures) (c .before .before .before .before .before .before .before .before .before .if1 .left) (c .before .before .before .before .before .before .before .before .read .ensures) (c .before .before .before .before .before .before .header .given .1)) (rw (c .before .before .before .before .payload .ensures) at (c .before .before .listened .ensures))
 
 returns-3 : tie.Need-returns-3
 returns-3 c =

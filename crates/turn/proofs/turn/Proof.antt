@@ -1,8 +1,8 @@
 -- `turn::turn` meets its contract: each refusal and the transmission, by the tests on the way.
+use Rattle.steps.proofs.Shows.{leaves-as}
 use mathlib.Core.Path.{refl}
 use lib.ListN.{length}
 use denote.Ref.{now}
-use Rattle.turn.proofs.Sending.{leaves-as}
 use Rattle.turn.proofs.Turns.{turn-unfit, turn-awaiting, turn-nobody, turn-sends}
 use borrow.Author.Needs.{needs}
 use Rattle.turn.proofs.turn.Statement.{statement}
