@@ -1,0 +1,221 @@
+//! Seeded captures of line bytes for the program `framelist`.
+
+use crate::checksum;
+use crate::finder::INPUT_LIMIT;
+use crate::frame::{self, Frame, MAX_PAYLOAD, OVERHEAD};
+use crate::prng::Prng;
+
+/// The example printed in 01.
+const PRINTED: [u8; 13] = [0x55, 2, 255, 3, 0, 0, 0, 0xA5, 0, 0, 0, 0x3D, 0x6D];
+
+/// One capture; the first eight indexes have fixed shapes.
+pub fn capture(seed: u64, index: u64) -> Vec<u8> {
+    let mut rng = Prng::new(seed ^ index.wrapping_mul(0xD6E8_FEB8_6659_FD93));
+    match index {
+        0 => Vec::new(),
+        1 => PRINTED.to_vec(),
+        2 => PRINTED[1..12].to_vec(),
+        3 => zeros_with_sums(),
+        4 => frame_ending_at(&mut rng, INPUT_LIMIT),
+        5 => frame_ending_at(&mut rng, INPUT_LIMIT + 1),
+        6 => whole_frames(&mut rng, 2 * INPUT_LIMIT),
+        7 => vec![0; 5000],
+        _ => mixture(&mut rng),
+    }
+}
+
+/// Ten zeros and AA AA (01), several times, between runs of zeros.
+fn zeros_with_sums() -> Vec<u8> {
+    let mut line = Vec::new();
+    for run in [10, 10, 22, 11, 250, 9] {
+        line.extend(vec![0; run]);
+        line.extend([0xAA, 0xAA]);
+    }
+    line
+}
+
+/// Noise, then a frame whose last byte is the given one, then more noise.
+fn frame_ending_at(rng: &mut Prng, end: usize) -> Vec<u8> {
+    let last = good_frame(rng);
+    let mut line = rng.bytes(end - last.len());
+    line.extend(last);
+    let tail = rng.between(0, 600);
+    line.extend(rng.bytes(tail));
+    line
+}
+
+fn whole_frames(rng: &mut Prng, least: usize) -> Vec<u8> {
+    let mut line = Vec::new();
+    while line.len() < least {
+        line.extend(good_frame(rng));
+    }
+    line
+}
+
+/// Any pieces one after another; one in four is longer than 4,096 bytes.
+fn mixture(rng: &mut Prng) -> Vec<u8> {
+    let least = if rng.chance(25) { INPUT_LIMIT } else { rng.between(0, 3000) };
+    let mut line = Vec::new();
+    loop {
+        line.extend(piece(rng));
+        if line.len() > least {
+            return line;
+        }
+    }
+}
+
+fn piece(rng: &mut Prng) -> Vec<u8> {
+    match rng.below(13) {
+        0 => noise(rng),
+        1 => vec![rng.pick(&[0x00, 0xAA, 0xFF, 0x0C]); rng.between(1, 60)],
+        2 | 3 => good_frame(rng),
+        4 => frame_of(rng, MAX_PAYLOAD),
+        5 => whole_frames(rng, 100),
+        6 => cut_frame(rng),
+        7 => damaged_frame(rng),
+        8 => over_long(rng),
+        9 => zeroed_frame(rng),
+        10 => nested(rng),
+        11 => damaged_outside(rng),
+        _ => [cut_frame(rng), good_frame(rng)].concat(),
+    }
+}
+
+fn noise(rng: &mut Prng) -> Vec<u8> {
+    let count = rng.between(1, 40);
+    rng.bytes(count)
+}
+
+fn good_frame(rng: &mut Prng) -> Vec<u8> {
+    let length = match rng.below(6) {
+        0 => 0,
+        1 => 17,
+        2 => rng.between(1, 3),
+        3 => rng.between(0, MAX_PAYLOAD),
+        4 => rng.pick(&[1, 238, 239, 240]),
+        _ => rng.between(0, 40),
+    };
+    frame_of(rng, length)
+}
+
+fn frame_of(rng: &mut Prng, length: usize) -> Vec<u8> {
+    let payload = rng.bytes(length);
+    frame_around(rng, &payload)
+}
+
+/// A frame with this payload and any header.
+fn frame_around(rng: &mut Prng, payload: &[u8]) -> Vec<u8> {
+    let frame = Frame {
+        destination: rng.pick(&[255, 0, 1, 2, 16, 17, 254]),
+        source: rng.pick(&[255, 0, 1, 2, 16, 17, 254]),
+        subnet: rng.pick(&[0, 2, 3]),
+        method: rng.pick(&[0, 1, 2, 3, 4]),
+        parameter1: rng.byte(),
+        parameter2: rng.byte(),
+        node_type: rng.pick(&[165, 1, 2, 5]),
+        message_type: rng.byte(),
+        packet: rng.pick(&[0, 0x80, 0x20]),
+        payload,
+    };
+    let mut out = vec![0; OVERHEAD + payload.len()];
+    let written = frame::write(&frame, &mut out).unwrap_or(0);
+    out.truncate(written);
+    out
+}
+
+fn cut_frame(rng: &mut Prng) -> Vec<u8> {
+    let mut bytes = good_frame(rng);
+    let keep = rng.between(1, bytes.len() - 1);
+    bytes.truncate(keep);
+    bytes
+}
+
+fn damaged_frame(rng: &mut Prng) -> Vec<u8> {
+    let mut bytes = good_frame(rng);
+    let at = rng.below(bytes.len());
+    bytes[at] ^= 1 << rng.below(8);
+    bytes
+}
+
+/// Length above 240 with sums that would be good.
+fn over_long(rng: &mut Prng) -> Vec<u8> {
+    let length = rng.between(241, 255);
+    let mut bytes = rng.bytes(10 + length);
+    bytes[9] = length as u8;
+    let tail = checksum::check_bytes(&bytes);
+    bytes.extend(tail);
+    bytes
+}
+
+/// A good frame with check byte 0 in place of 255.
+fn zeroed_frame(rng: &mut Prng) -> Vec<u8> {
+    loop {
+        let bytes = good_frame(rng);
+        if let Some(bytes) = zero_for_255(&bytes) {
+            return bytes;
+        }
+    }
+}
+
+/// The frame with each check byte 255 made 0, if it has one.
+pub fn zero_for_255(frame: &[u8]) -> Option<Vec<u8>> {
+    let mut bytes = frame.to_vec();
+    let body = bytes.len().checked_sub(2)?;
+    for byte in &mut bytes[body..] {
+        *byte = if *byte == 255 { 0 } else { *byte };
+    }
+    (bytes != frame).then_some(bytes)
+}
+
+/// A frame inside a good frame's payload, which is not to be listed.
+fn nested(rng: &mut Prng) -> Vec<u8> {
+    let length = rng.between(0, 60);
+    let inner = frame_of(rng, length);
+    frame_around(rng, &inner)
+}
+
+/// A good frame inside a damaged one, which is to be found.
+fn damaged_outside(rng: &mut Prng) -> Vec<u8> {
+    let mut bytes = nested(rng);
+    bytes[rng.below(9)] ^= 0x10;
+    bytes
+}
+
+#[cfg(test)]
+mod tests {
+    use super::*;
+    use crate::finder;
+
+    #[test]
+    fn captures_are_the_same_again_and_hold_frames() {
+        let mut listed = 0;
+        for index in 0..60 {
+            let line = capture(5, index);
+            assert_eq!(line, capture(5, index));
+            listed += finder::list(&line).lines().count();
+        }
+        assert!(listed > 200);
+    }
+
+    #[test]
+    fn a_frame_that_ends_at_the_limit_is_listed_and_one_past_it_not() {
+        let last = |index| finder::list(&capture(5, index)).lines().last().map(str::to_string);
+        let ends_at = |line: String| {
+            let numbers: Vec<usize> = line.split(' ').map(|word| word.parse().unwrap()).collect();
+            numbers[0] + 12 + numbers[4]
+        };
+        assert_eq!(last(4).map(ends_at), Some(4096));
+        assert!(last(5).map(ends_at) < Some(4096));
+    }
+
+    #[test]
+    fn zeroed_frames_are_good_and_over_long_ones_are_not() {
+        let mut rng = Prng::new(1);
+        for _ in 0..50 {
+            let zeroed = zeroed_frame(&mut rng);
+            assert!(frame::read(&zeroed).is_ok());
+            assert!(zeroed[zeroed.len() - 2..].contains(&0));
+            assert!(frame::read(&over_long(&mut rng)).is_err());
+        }
+    }
+}

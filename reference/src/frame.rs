@@ -1,0 +1,157 @@
+//! The frame reader and writer (001, section 5.2; 01, "The frame").
+
+use crate::checksum;
+use crate::refusal::{refuse_if, Refusal};
+
+/// 001, 6.2: the coordinator's address.
+pub const COORDINATOR: u8 = 255;
+/// 000, 8.1.1: the coordinator's node type.
+pub const COORDINATOR_TYPE: u8 = 165;
+/// 001, table 1: the payload begins at offset 10.
+pub const PAYLOAD_AT: usize = 10;
+/// Header and checksum together.
+pub const OVERHEAD: usize = 12;
+/// 001, table 1: 0 to 240 bytes of payload.
+pub const MAX_PAYLOAD: usize = 240;
+
+/// The fields of one frame; the length and the checksum follow from them.
+#[derive(Clone, Copy, Debug, Default, PartialEq, Eq)]
+pub struct Frame<'a> {
+    pub destination: u8,
+    pub source: u8,
+    pub subnet: u8,
+    pub method: u8,
+    pub parameter1: u8,
+    pub parameter2: u8,
+    pub node_type: u8,
+    pub message_type: u8,
+    pub packet: u8,
+    pub payload: &'a [u8],
+}
+
+/// The reader: refusals 1 to 4 in that order, else the fields. The payload is
+/// a part of `bytes` (01, "The frame").
+pub fn read(bytes: &[u8]) -> Result<Frame<'_>, Refusal> {
+    refuse_if(bytes.len() < OVERHEAD, Refusal::Short)?;
+    let length = usize::from(bytes[9]);
+    refuse_if(length > MAX_PAYLOAD, Refusal::OverLong)?;
+    refuse_if(bytes.len() != OVERHEAD + length, Refusal::LengthMismatch)?;
+    refuse_if(!checksum::is_good(bytes), Refusal::BadChecksum)?;
+    Ok(Frame {
+        destination: bytes[0],
+        source: bytes[1],
+        subnet: bytes[2],
+        method: bytes[3],
+        parameter1: bytes[4],
+        parameter2: bytes[5],
+        node_type: bytes[6],
+        message_type: bytes[7],
+        packet: bytes[8],
+        payload: &bytes[PAYLOAD_AT..PAYLOAD_AT + length],
+    })
+}
+
+/// The writer: refusals 10 and 11 in that order, else the frame at the front
+/// of `out` and its length. Bytes of `out` past the frame stay as they are.
+pub fn write(frame: &Frame<'_>, out: &mut [u8]) -> Result<usize, Refusal> {
+    let length = frame.payload.len();
+    refuse_if(length > MAX_PAYLOAD, Refusal::PayloadTooLong)?;
+    refuse_if(out.len() < OVERHEAD + length, Refusal::NoRoom)?;
+    out[..PAYLOAD_AT].copy_from_slice(&[
+        frame.destination,
+        frame.source,
+        frame.subnet,
+        frame.method,
+        frame.parameter1,
+        frame.parameter2,
+        frame.node_type,
+        frame.message_type,
+        frame.packet,
+        length as u8,
+    ]);
+    let end = PAYLOAD_AT + length;
+    out[PAYLOAD_AT..end].copy_from_slice(frame.payload);
+    let tail = checksum::check_bytes(&out[..end]);
+    out[end..end + 2].copy_from_slice(&tail);
+    Ok(OVERHEAD + length)
+}
+
+#[cfg(test)]
+mod tests {
+    use super::*;
+
+    const PRINTED: [u8; 12] = [2, 255, 3, 0, 0, 0, 0xA5, 0, 0, 0, 0x3D, 0x6D];
+
+    #[test]
+    fn the_printed_frame_is_read() {
+        let frame = read(&PRINTED).unwrap();
+        assert_eq!((frame.destination, frame.source, frame.subnet), (2, 255, 3));
+        assert_eq!((frame.node_type, frame.payload.len()), (165, 0));
+    }
+
+    #[test]
+    fn the_reader_refuses_1_to_4_as_printed() {
+        assert_eq!(read(&PRINTED[..11]), Err(Refusal::Short));
+        let mut long = [0u8; 253];
+        long[9] = 241;
+        assert_eq!(read(&long), Err(Refusal::OverLong));
+        let mut one = [0u8; 12];
+        one[9] = 1;
+        assert_eq!(read(&one), Err(Refusal::LengthMismatch));
+        let mut bad = PRINTED;
+        bad[11] = 0x6E;
+        assert_eq!(read(&bad), Err(Refusal::BadChecksum));
+    }
+
+    #[test]
+    fn over_long_comes_before_a_length_that_does_not_match() {
+        let mut bytes = [0u8; 12];
+        bytes[9] = 255;
+        assert_eq!(read(&bytes), Err(Refusal::OverLong));
+    }
+
+    #[test]
+    fn the_writer_refuses_10_before_11_and_writes_nothing() {
+        let payload = [7u8; 241];
+        let frame = Frame { payload: &payload, ..Frame::default() };
+        let mut out = [9u8; 12];
+        assert_eq!(write(&frame, &mut out), Err(Refusal::PayloadTooLong));
+        let frame = Frame { payload: &payload[..1], ..Frame::default() };
+        assert_eq!(write(&frame, &mut out), Err(Refusal::NoRoom));
+        assert_eq!(out, [9u8; 12]);
+    }
+
+    #[test]
+    fn written_frames_read_back_and_the_rest_is_kept() {
+        let payload: Vec<u8> = (0..240).collect();
+        for length in [0, 1, 17, 239, 240] {
+            let frame = Frame {
+                destination: 1,
+                source: 2,
+                subnet: 3,
+                method: 4,
+                parameter1: 5,
+                parameter2: 6,
+                node_type: 7,
+                message_type: 8,
+                packet: 9,
+                payload: &payload[..length],
+            };
+            let mut out = [0xEEu8; 260];
+            let count = write(&frame, &mut out).unwrap();
+            assert_eq!(count, 12 + length);
+            assert_eq!(read(&out[..count]), Ok(frame));
+            assert!(out[count..].iter().all(|&byte| byte == 0xEE));
+        }
+    }
+
+    #[test]
+    fn reading_and_writing_turns_a_zero_check_byte_into_255() {
+        let bytes = [0, 0, 0, 0, 0, 0x11, 0, 0, 0, 0, 0x44, 0];
+        let frame = read(&bytes).unwrap();
+        let mut out = [0u8; 12];
+        assert_eq!(write(&frame, &mut out), Ok(12));
+        assert_eq!(out[..11], bytes[..11]);
+        assert_eq!(out[11], 255);
+    }
+}

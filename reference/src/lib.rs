@@ -1,0 +1,22 @@
+//! A second implementation of the zone panel's rules, written from the
+//! documents alone, to be compared with the first.
+//!
+//! In the comments "01" is the rule book, "000" the Networking Specification,
+//! "001" the Data Link Specification, "003" the API Reference and "design 7"
+//! the script language. The choices made where these are silent or can be
+//! read in two ways stand in DECISIONS.md.
+
+#![forbid(unsafe_code)]
+
+pub mod captures;
+pub mod checksum;
+pub mod coverage;
+pub mod finder;
+pub mod frame;
+pub mod generator;
+pub mod panel;
+pub mod prng;
+pub mod refusal;
+pub mod routing;
+pub mod script;
+pub mod state;

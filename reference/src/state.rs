@@ -1,0 +1,286 @@
+//! The panel's state: the table of boards, the coordinator's record, and when
+//! the two are fit (01, "Boards and positions" and "Fit").
+
+use crate::frame::{Frame, COORDINATOR_TYPE, MAX_PAYLOAD};
+
+/// 01: the host lends forty records.
+pub const RECORDS: usize = 40;
+/// 01: a MAC is a number from 1 to 2^56 - 1.
+pub const MAX_MAC: u64 = (1 << 56) - 1;
+
+/// One board's record; a free one is all zeros.
+#[derive(Clone, Copy, Debug, Default, PartialEq, Eq)]
+pub struct Record {
+    pub node_type: u8,
+    pub mac: u64,
+    pub session: u64,
+    pub misses: u8,
+    pub owed: bool,
+}
+
+impl Record {
+    pub fn listed(&self) -> bool {
+        self.node_type != 0
+    }
+}
+
+/// What is kept of a frame that is to be passed on (01, "Forward and return").
+#[derive(Clone, Debug, PartialEq, Eq)]
+pub struct Message {
+    pub message_type: u8,
+    pub packet: u8,
+    pub node_type: u8,
+    pub method: u8,
+    pub parameter1: u8,
+    pub payload: Vec<u8>,
+}
+
+impl Message {
+    pub fn of(frame: &Frame<'_>) -> Message {
+        Message {
+            message_type: frame.message_type,
+            packet: frame.packet,
+            node_type: frame.node_type,
+            method: frame.method,
+            parameter1: frame.parameter1,
+            payload: frame.payload.to_vec(),
+        }
+    }
+}
+
+/// The kind of exchange in which the panel waits for a board.
+#[derive(Clone, Copy, Debug, PartialEq, Eq)]
+pub enum Exchange {
+    Offer,
+    List,
+    Forward { requester: usize, request_type: u8, acked: bool },
+    Return,
+}
+
+impl Exchange {
+    pub fn name(&self) -> &'static str {
+        match self {
+            Exchange::Offer => "offer",
+            Exchange::List => "list",
+            Exchange::Forward { .. } => "forward",
+            Exchange::Return => "return",
+        }
+    }
+}
+
+/// At most one wait, forward or return at a time (01, "Fit").
+#[derive(Clone, Debug, Default, PartialEq, Eq)]
+pub enum Phase {
+    #[default]
+    Idle,
+    ForwardDue {
+        to: usize,
+        requester: usize,
+        request: Message,
+    },
+    ReturnDue {
+        to: usize,
+        response: Message,
+    },
+    Waiting {
+        board: usize,
+        exchange: Exchange,
+    },
+}
+
+/// The coordinator's record. The empty one, before a setup, is not fit.
+#[derive(Clone, Debug, Default, PartialEq, Eq)]
+pub struct Coordinator {
+    pub pool: Vec<u8>,
+    pub subnet: u8,
+    pub internal: u8,
+    pub mac: u64,
+    pub session: u64,
+    pub phase: Phase,
+    pub last_offered: usize,
+    pub held: bool,
+}
+
+/// 01: k from 1 to 40, strictly rising, each 1 to 254.
+pub fn pool_fits(pool: &[u8]) -> bool {
+    let count = (1..=RECORDS).contains(&pool.len());
+    let range = pool.iter().all(|&address| (1..=254).contains(&address));
+    count && range && pool.windows(2).all(|pair| pair[0] < pair[1])
+}
+
+pub fn mac_fits(mac: u64) -> bool {
+    (1..=MAX_MAC).contains(&mac)
+}
+
+/// 01: a listed record's type is neither 0 nor 165.
+pub fn type_fits(node_type: u8) -> bool {
+    node_type != 0 && node_type != COORDINATOR_TYPE
+}
+
+/// A listed record within the ranges, or a free one that is all zeros.
+fn record_fits(record: &Record) -> bool {
+    if !record.listed() {
+        return *record == Record::default();
+    }
+    type_fits(record.node_type) && mac_fits(record.mac) && record.misses <= 2
+}
+
+fn macs_differ(records: &[Record]) -> bool {
+    let listed: Vec<u64> = records.iter().filter(|r| r.listed()).map(|r| r.mac).collect();
+    (1..listed.len()).all(|i| !listed[..i].contains(&listed[i]))
+}
+
+fn records_fit(records: &[Record], k: usize) -> bool {
+    let forty = records.len() == RECORDS;
+    let past_free = records.iter().skip(k).all(|record| !record.listed());
+    forty && past_free && records.iter().all(record_fits) && macs_differ(records)
+}
+
+fn is_listed(records: &[Record], position: usize) -> bool {
+    let place = position.checked_sub(1);
+    place.and_then(|i| records.get(i)).is_some_and(Record::listed)
+}
+
+fn request_fits(request: &Message) -> bool {
+    (1..=127).contains(&request.message_type)
+        && (1..=3).contains(&request.method)
+        && request.payload.len() <= MAX_PAYLOAD
+}
+
+fn response_fits(response: &Message) -> bool {
+    response.message_type > 128 && response.payload.len() <= MAX_PAYLOAD
+}
+
+fn exchange_fits(records: &[Record], exchange: &Exchange) -> bool {
+    match exchange {
+        Exchange::Forward { requester, request_type, .. } => {
+            is_listed(records, *requester) && (1..=127).contains(request_type)
+        }
+        _ => true,
+    }
+}
+
+fn phase_fits(records: &[Record], phase: &Phase) -> bool {
+    match phase {
+        Phase::Idle => true,
+        Phase::ForwardDue { to, requester, request } => {
+            is_listed(records, *to) && is_listed(records, *requester) && request_fits(request)
+        }
+        Phase::ReturnDue { to, response } => is_listed(records, *to) && response_fits(response),
+        Phase::Waiting { board, exchange } => {
+            is_listed(records, *board) && exchange_fits(records, exchange)
+        }
+    }
+}
+
+/// 01, "Fit": what every step asks of the lent table and record (else 22).
+pub fn fit(records: &[Record], coordinator: &Coordinator) -> bool {
+    let k = coordinator.pool.len();
+    pool_fits(&coordinator.pool)
+        && mac_fits(coordinator.mac)
+        && records_fit(records, k)
+        && phase_fits(records, &coordinator.phase)
+        && (!coordinator.held || records.iter().any(Record::listed))
+        && coordinator.last_offered <= k
+}
+
+#[cfg(test)]
+mod tests {
+    use super::*;
+
+    fn board(node_type: u8, mac: u64) -> Record {
+        Record { node_type, mac, session: 1, misses: 0, owed: false }
+    }
+
+    fn sample() -> (Vec<Record>, Coordinator) {
+        let mut records = vec![Record::default(); RECORDS];
+        records[0] = board(2, 7);
+        records[2] = board(5, 8);
+        let pool = vec![2, 5, 9];
+        let coordinator = Coordinator { pool, mac: 1, ..Coordinator::default() };
+        (records, coordinator)
+    }
+
+    /// Whether the sample is still fit after a change.
+    fn fit_after(change: impl Fn(&mut Vec<Record>, &mut Coordinator)) -> bool {
+        let (mut records, mut coordinator) = sample();
+        change(&mut records, &mut coordinator);
+        fit(&records, &coordinator)
+    }
+
+    #[test]
+    fn the_sample_is_fit_and_the_empty_record_is_not() {
+        assert!(fit_after(|_, _| ()));
+        assert!(!fit(&vec![Record::default(); RECORDS], &Coordinator::default()));
+    }
+
+    #[test]
+    fn records_out_of_range_are_unfit() {
+        assert!(!fit_after(|r, _| r.truncate(39)));
+        assert!(!fit_after(|r, _| r.push(Record::default())));
+        assert!(!fit_after(|r, _| r[0].node_type = 165));
+        assert!(!fit_after(|r, _| r[0].node_type = 0));
+        assert!(!fit_after(|r, _| r[0].mac = 0));
+        assert!(!fit_after(|r, _| r[0].mac = 1 << 56));
+        assert!(!fit_after(|r, _| r[0].mac = 8));
+        assert!(!fit_after(|r, _| r[0].misses = 3));
+        assert!(!fit_after(|r, _| r[1].owed = true));
+        assert!(!fit_after(|r, _| r[3] = board(4, 11)));
+    }
+
+    #[test]
+    fn coordinator_records_out_of_range_are_unfit() {
+        assert!(!fit_after(|_, c| c.pool = vec![5, 5]));
+        assert!(!fit_after(|_, c| c.mac = 0));
+        assert!(!fit_after(|_, c| c.last_offered = 4));
+        assert!(fit_after(|_, c| c.last_offered = 3));
+        assert!(fit_after(|_, c| c.held = true));
+        assert!(!fit_after(|r, c| {
+            r.fill(Record::default());
+            c.held = true;
+        }));
+    }
+
+    fn message(message_type: u8, method: u8, length: usize) -> Message {
+        let payload = vec![0; length];
+        Message { message_type, packet: 0, node_type: 1, method, parameter1: 0, payload }
+    }
+
+    fn forward_due(to: usize, requester: usize, request: Message) -> bool {
+        let phase = Phase::ForwardDue { to, requester, request };
+        fit_after(move |_, c| c.phase = phase.clone())
+    }
+
+    #[test]
+    fn a_forward_names_listed_boards_and_a_request() {
+        assert!(forward_due(1, 3, message(1, 1, 240)));
+        assert!(!forward_due(2, 3, message(1, 1, 0)));
+        assert!(!forward_due(1, 0, message(1, 1, 0)));
+        assert!(!forward_due(1, 41, message(1, 1, 0)));
+        assert!(!forward_due(1, 3, message(0, 1, 0)));
+        assert!(!forward_due(1, 3, message(128, 1, 0)));
+        assert!(!forward_due(1, 3, message(1, 0, 0)));
+        assert!(!forward_due(1, 3, message(1, 4, 0)));
+        assert!(!forward_due(1, 3, message(1, 1, 241)));
+    }
+
+    fn in_phase(phase: Phase) -> bool {
+        fit_after(move |_, c| c.phase = phase.clone())
+    }
+
+    #[test]
+    fn returns_and_waits_name_listed_boards() {
+        assert!(in_phase(Phase::ReturnDue { to: 1, response: message(129, 9, 240) }));
+        assert!(!in_phase(Phase::ReturnDue { to: 2, response: message(129, 9, 0) }));
+        assert!(!in_phase(Phase::ReturnDue { to: 1, response: message(128, 9, 0) }));
+        assert!(in_phase(Phase::Waiting { board: 3, exchange: Exchange::Return }));
+        assert!(!in_phase(Phase::Waiting { board: 2, exchange: Exchange::Offer }));
+        let forward = |requester, request_type| {
+            let exchange = Exchange::Forward { requester, request_type, acked: false };
+            in_phase(Phase::Waiting { board: 1, exchange })
+        };
+        assert!(forward(3, 127));
+        assert!(!forward(2, 127));
+        assert!(!forward(3, 0));
+    }
+}
