@@ -7,7 +7,7 @@ use mathlib.Core.List.{List, [], _∷_}
 use lib.ListN.{length}
 use Rattle.ground.specs.Below.{among}
 use Rattle.refusal.specs.Refusal.{refuses}
-use Rattle.refusal.specs.declared.Refusal.the-variants.{StateUnfit, AddressClash}
+use Rattle.refusal.specs.declared.Refusal.the-variants.{StateUnfit, AddressClash, NotWaiting}
 use Rattle.board.specs.Table.{at, listedAt}
 use Rattle.board.specs.Wanted.{someListed}
 use Rattle.setup.specs.Setup.{address}
@@ -66,7 +66,11 @@ quietWith room = record { event = Quiet; received = []; room = room }
 abbrev pub Transmits : Panel → World → ℕ → Type 0
 Transmits P w room = (12 ≤ length (P .step w (turnWith room) .bytes)) × (1 ≤ waitedFor (P .step w (turnWith room) .says))
 
+-- a quiet that ends the wait: it is accepted, and another finds no wait to end
+abbrev pub EndsWait : Panel → World → ℕ → Type 0
+EndsWait P w room = (isAccepted (P .step w (quietWith room) .says) ≡ true) × (P .step (left (P .step w (quietWith room))) (quietWith room) .says ≡ refuses NotWaiting)
+
 -- "While anyone is listed, the panel, lent room for a frame, can make its next transmission or end its wait": a frame takes at most 252 bytes
 abbrev pub NeverStuck : Panel → Type 0
 NeverStuck P =
-    (k : ℕ) (w : World) → Fresh P k w → (is : List Input) (room : ℕ) → 252 ≤ room → someListed (after P w is .nodes) ≡ true → Transmits P (after P w is) room ⊎ (isAccepted (P .step (after P w is) (quietWith room) .says) ≡ true)
+    (k : ℕ) (w : World) → Fresh P k w → (is : List Input) (room : ℕ) → 252 ≤ room → someListed (after P w is .nodes) ≡ true → Transmits P (after P w is) room ⊎ EndsWait P (after P w is) room

@@ -10,13 +10,16 @@ use lib.ListN.{length, take, length-take}
 use borrow.Author.Tests.{ltb-true, le-ltb}
 use Rattle.ground.specs.Choose.{choose}
 use Rattle.ground.proofs.Choices.{not-no}
+use Rattle.refusal.specs.Refusal.{refuses}
+use Rattle.refusal.specs.declared.Refusal.the-variants.{NotWaiting}
 use Rattle.refusal.proofs.Rules.{passed}
 use Rattle.frame.proofs.RoundTrip.{long}
 use Rattle.board.specs.declared.Node.{Node}
 use Rattle.board.specs.declared.Wanted.the-variants.{Listed}
 use Rattle.board.specs.Table.{at, put}
 use Rattle.board.specs.Wanted.{lowestOf, someListed}
-use Rattle.board.specs.Change.{missed}
+use Rattle.board.specs.Node.{none}
+use Rattle.board.specs.Change.{missed, oweAll}
 use Rattle.board.specs.Round.{nextListed}
 use Rattle.board.proofs.NextListed.{next-nearest}
 use Rattle.message.specs.Message.{offerCode}
@@ -27,14 +30,16 @@ use Rattle.coordinator.specs.declared.Phase.the-variants.{Resting, Awaiting, Fo
 use Rattle.coordinator.specs.declared.Kept.{Kept}
 use Rattle.coordinator.specs.Phase.{phaseOf}
 use Rattle.coordinator.specs.Fit.{fits}
-use Rattle.coordinator.specs.Change.{withPhase}
+use Rattle.coordinator.specs.Change.{withPhase, holding}
+use Rattle.coordinator.proofs.Phases.{resting, phase-back}
 use Rattle.coordinator.proofs.Fitting.{Board, some-listed, fit-told, fits-known, board-listed, due-forward, due-return}
 use Rattle.steps.specs.After.{refused, accepted, rests}
 use Rattle.steps.specs.Turn.{Due, dueList, dueOffer, dueIn, owedTo, isAwaiting, sent, turnRules, turnIn, turnOf}
 use Rattle.steps.specs.Quiet.{droppedAt, missedAt, quietValue, quietRules, quietIn, quietOf}
-use Rattle.series.specs.Series.{after, isAccepted, waitedFor}
-use Rattle.series.specs.Demand.{NeverStuck}
+use Rattle.series.specs.Series.{World, after, isAccepted, waitedFor}
+use Rattle.series.specs.Demand.{Transmits, EndsWait, NeverStuck, quietWith}
 use Rattle.series.specs.Ours.{ours}
+use Rattle.lasting.proofs.Keeping.{isFit, step-fit}
 use Rattle.lasting.proofs.Series.{lasting}
 
 -- what is due goes into a frame, to a board
@@ -96,9 +101,40 @@ module _ (c : Coordinator) (t : List Node) (h : fits c t ≡ true) (s : someList
   wait-ends (ReturnDue b) n = absurd (false≢true n)
   wait-ends Unknown n = absurd (false≢true n)
 
-  unstuck : (room : ℕ) → 252 ≤ room → (b : Bool) → isAwaiting (phaseOf (c .stand)) ≡ b → ((12 ≤ length (turnOf c t room .bytes)) × (1 ≤ waitedFor (turnOf c t room .says))) ⊎ (isAccepted (quietOf c t .says) ≡ true)
-  unstuck room l false n = inl (transmits room l (phaseOf (c .stand)) refl n)
-  unstuck room l true n = inr (rw (quiet-passes (phaseOf (c .stand)) n) (wait-ends (phaseOf (c .stand)) n))
+  -- and nothing is waited for then
+  rested : (b : ℕ) (a : Bool) → phaseOf (choose a (accepted (withPhase c Resting) t rests []) (missedAt c t b) .coordinator .stand) ≡ Resting
+  unfolding choose
+  rested b true = phase-back resting
+  rested b false = go (ltb (at t b .misses) 2) (someListed (put t b none))
+    where
+      go : (y z : Bool) → phaseOf (choose y (accepted (withPhase c Resting) (put t b (missed (at t b))) rests []) (record { coordinator = choose z (withPhase c Resting) (holding (withPhase c Resting) false); nodes = oweAll (put t b none); says = rests; bytes = []; joined = 0; dropped = b }) .coordinator .stand) ≡ Resting
+      go true z = phase-back resting
+      go false true = phase-back resting
+      go false false = phase-back resting
+
+  wait-over : (p : Phase) → isAwaiting p ≡ true → phaseOf (quietValue p c t .coordinator .stand) ≡ Resting
+  wait-over Resting n = absurd (false≢true n)
+  wait-over (Awaiting b e q a) n = rested b a
+  wait-over (ForwardDue b q) n = absurd (false≢true n)
+  wait-over (ReturnDue b) n = absurd (false≢true n)
+  wait-over Unknown n = absurd (false≢true n)
+
+-- a quiet where nothing is waited for is refused 20
+quiet-over : (c : Coordinator) (t : List Node) → fits c t ≡ true → phaseOf (c .stand) ≡ Resting → quietOf c t .says ≡ refuses NotWaiting
+unfolding quietIn choose
+quiet-over c t h e = rw (e, h) refl
+
+module _ (w : World) (h : isFit w ≡ true) (s : someListed (w .nodes) ≡ true) where
+  unstuck : (room : ℕ) → 252 ≤ room → (b : Bool) → isAwaiting (phaseOf (w .coordinator .stand)) ≡ b → Transmits ours w room ⊎ EndsWait ours w room
+  unstuck room l false n = inl (transmits (w .coordinator) (w .nodes) h s room l (phaseOf (w .coordinator .stand)) refl n)
+  unstuck room l true n =
+      inr (
+        rw taken (wait-ends (w .coordinator) (w .nodes) h s (phaseOf (w .coordinator .stand)) n),
+        quiet-over _ _ (step-fit w (quietWith room) h) (rw taken (wait-over (w .coordinator) (w .nodes) h s (phaseOf (w .coordinator .stand)) n)),
+      )
+    where
+      taken : quietIn (phaseOf (w .coordinator .stand)) (w .coordinator) (w .nodes) ≡ quietValue (phaseOf (w .coordinator .stand)) (w .coordinator) (w .nodes)
+      taken = quiet-passes (w .coordinator) (w .nodes) h s (phaseOf (w .coordinator .stand)) n
 
 pub never-stuck : NeverStuck ours
-never-stuck k w f is room l s = unstuck (after ours w is .coordinator) (after ours w is .nodes) (lasting f is .fit) s room l (isAwaiting (phaseOf (after ours w is .coordinator .stand))) refl
+never-stuck k w f is room l s = unstuck (after ours w is) (lasting f is .fit) s room l (isAwaiting (phaseOf (after ours w is .coordinator .stand))) refl

@@ -11,9 +11,9 @@ use borrow.Author.Tests.{eqb-false, leb-true}
 use Rattle.ground.specs.Below.{among}
 use Rattle.board.specs.Table.{at, listedAt}
 use Rattle.board.specs.Wanted.{someListed}
-use Rattle.series.specs.Series.{Input, World, Panel, Fresh, after, isAccepted, offers, accepted, stays}
+use Rattle.series.specs.Series.{left, Input, World, Panel, Fresh, after, isAccepted, offers, accepted, stays}
 use Rattle.series.specs.Observed.{nothing, saw, seen}
-use Rattle.series.specs.Demand.{WhoStays, NoTwoAlike, RoundRobin, Bounded, NeverStuck, Transmits, bound, turnWith, quietWith}
+use Rattle.series.specs.Demand.{WhoStays, NoTwoAlike, RoundRobin, Bounded, NeverStuck, Transmits, EndsWait, bound, turnWith, quietWith}
 
 module _ {P : Panel} {k : ℕ} {w : World} (f : Fresh P k w) (is : List Input) where
   module _ (i : Input) (p : ℕ) where
@@ -40,9 +40,17 @@ module _ {P : Panel} {k : ℕ} {w : World} (f : Fresh P k w) (is : List Input) w
   pub stuck : someListed (after P w is .nodes) ≡ true → P .step (after P w is) (turnWith 252) .bytes ≡ [] → isAccepted (P .step (after P w is) (quietWith 252) .says) ≡ false → NeverStuck P → ⊥
   stuck listed silent waits s = go (s k w f is 252 (omega arith) listed)
     where
-      go : Transmits P (after P w is) 252 ⊎ (isAccepted (P .step (after P w is) (quietWith 252) .says) ≡ true) → ⊥
+      go : Transmits P (after P w is) 252 ⊎ EndsWait P (after P w is) 252 → ⊥
       go (inl sends) = let z : ⊥ = omega (arith, ap length silent, sends .0) in z
-      go (inr ends) = false≢true (sym waits ∙ ends)
+      go (inr ends) = false≢true (sym waits ∙ ends .0)
+
+  -- somebody is listed, a turn writes nothing, and after a quiet another is accepted, so that the wait was not ended
+  pub lingers : someListed (after P w is .nodes) ≡ true → P .step (after P w is) (turnWith 252) .bytes ≡ [] → isAccepted (P .step (left (P .step (after P w is) (quietWith 252))) (quietWith 252) .says) ≡ true → NeverStuck P → ⊥
+  lingers listed silent again s = go (s k w f is 252 (omega arith) listed)
+    where
+      go : Transmits P (after P w is) 252 ⊎ EndsWait P (after P w is) 252 → ⊥
+      go (inl sends) = let z : ⊥ = omega (arith, ap length silent, sends .0) in z
+      go (inr ends) = false≢true (sym (ap isAccepted (ends .1)) ∙ again)
 
   -- two positions are listed with one MAC
   pub alike : (p q mac : ℕ) → eqb p q ≡ false → listedAt (after P w is .nodes) p ≡ true → listedAt (after P w is .nodes) q ≡ true → at (after P w is .nodes) p .mac ≡ mac → at (after P w is .nodes) q .mac ≡ mac → NoTwoAlike P → ⊥

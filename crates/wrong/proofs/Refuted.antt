@@ -7,7 +7,7 @@ use Rattle.series.specs.Demand.{WhoStays, NoTwoAlike, FitForEver, RoundRobin, B
 use Rattle.wrong.specs.Wrong.{stepping, quietDoesNothing, quietChangesNothing, quietNeverDrops, offersOneBoard, onlyLooksBusy, waitsForEver, countsSinceJoining, restartsRound, hearsAnyone, listsTwice}
 use Rattle.wrong.specs.Trial.{before, begun, one, two, turn, quiet, missesTwice, answersBetween, anotherBetween, listed, twelveQuiets, offeredOnce, joinsAgain, firstRound, sixLists, bothJoin, twoOffers}
 use Rattle.wrong.proofs.Opened.{opened}
-use Rattle.wrong.proofs.Laws.{outstays, leaves-early, passed-over, starved, stuck, alike}
+use Rattle.wrong.proofs.Laws.{outstays, leaves-early, passed-over, starved, stuck, lingers, alike}
 
 -- a fresh start with one address, and with two
 from-one : {step : World → Input → After} → Fresh (stepping step) 1 (begun one)
@@ -58,6 +58,11 @@ quiet-changes-nothing-refuted = starved from-one listed twelveQuiets 1 [] refl r
 pub waits-for-ever-refuted : NeverStuck waitsForEver → ⊥
 unfolding opened
 waits-for-ever-refuted = stuck from-one offeredOnce refl refl refl
+
+-- nor does it end where a quiet is accepted and changes nothing
+pub quiet-changes-nothing-lingers : NeverStuck quietChangesNothing → ⊥
+unfolding opened
+quiet-changes-nothing-lingers = lingers from-one offeredOnce refl refl refl
 
 -- a board that joins again has two positions, and the next step is refused 22
 pub lists-twice-refuted : NoTwoAlike listsTwice → ⊥
