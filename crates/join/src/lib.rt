@@ -17,7 +17,7 @@ ghost use mathlib.Core.List.{[]};
 ghost use lib.Dec.{eqb, ltb};
 ghost use lib.ListN.{drop};
 ghost use Rattle.refusal.specs.Refusal.{ruled, refuses, gives};
-ghost use Rattle.board.specs.Node.{isListed, isKind, isMac};
+ghost use Rattle.board.specs.Node.{isListed, isKind};
 ghost use Rattle.board.specs.Wanted.{lowestOf};
 ghost use Rattle.setup.specs.Setup.{toldOf};
 ghost use Rattle.coordinator.specs.Phase.{phaseOf};
@@ -29,13 +29,6 @@ fn is_kind(kind: u8) -> bool
     ensures { λ r. ⌜ r ≡ isKind kind ⌝ }
 {
     (kind != 0) & (kind != 165)
-}
-
-// A MAC is 1 to 2^56 - 1.
-fn is_mac(mac: u64) -> bool
-    ensures { λ r. ⌜ r ≡ isMac mac ⌝ }
-{
-    (0 < mac) & (mac < 0x100_0000_0000_0000)
 }
 
 // No wait, and no forward or return due.
@@ -147,7 +140,7 @@ fn judge_join(coordinator: Coordinator, table: Table, kind: u8, mac: u64) -> Jud
     if !is_kind(kind) {
         return Judged::Refused(Refusal::BadType);
     }
-    if !is_mac(mac) {
+    if !setup::is_mac(mac) {
         return Judged::Refused(Refusal::BadMac);
     }
     judge_moment(coordinator, table, mac)

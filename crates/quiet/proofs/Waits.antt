@@ -22,14 +22,9 @@ use Rattle.coordinator.proofs.Phase.{the-type}
 use Rattle.coordinator.specs.Phase.{phaseOf}
 use Rattle.coordinator.specs.Fit.{fits}
 use Rattle.coordinator.specs.Change.{withPhase}
-use Rattle.steps.specs.After.{shows, refused}
+use Rattle.steps.specs.After.{shows, refused, resting}
 use Rattle.steps.specs.Turn.{isAwaiting}
 use Rattle.steps.specs.Quiet.{stillHeld, droppedAt, missedAt, quietValue, quietIn, quietOf}
-use Rattle.quiet.specs.Ended.{ended}
-
--- equals leave equals
-pub same-ended : {c d : Coordinator} {t u : List Node} (b : ℕ) → c ≡ d → t ≡ u → shows (ended c t b) ≡ shows (ended d u b)
-same-ended b e f = λ i. shows (ended (e i) (f i) b)
 
 pub same-held : {c d : Coordinator} {t u : List Node} → c ≡ d → t ≡ u → stillHeld c t ≡ stillHeld d u
 same-held e f = λ i. stillHeld (e i) (f i)
@@ -47,8 +42,8 @@ no-wait Unknown h = refl
 
 module _ (c : Coordinator) (t : List Node) where
   -- with at most one miss so far, there is one more
-  pub miss-noted : (b : ℕ) (n : Node) → n ≡ at t b → n .misses < 2 → missedAt c t b ≡ ended (withPhase c Resting) (put t b (missed n)) 0
-  miss-noted b n e h = sym (choose-yes _ _ _ _ (ap (λ (m : Node). ltb (m .misses) 2) (sym e) ∙ lt-ltb (n .misses) 2 h) (ap (λ (m : Node). ended (withPhase c Resting) (put t b (missed m)) 0) e))
+  pub miss-noted : (b : ℕ) (n : Node) → n ≡ at t b → n .misses < 2 → missedAt c t b ≡ resting (withPhase c Resting) (put t b (missed n)) 0 0
+  miss-noted b n e h = sym (choose-yes _ _ _ _ (ap (λ (m : Node). ltb (m .misses) 2) (sym e) ∙ lt-ltb (n .misses) 2 h) (ap (λ (m : Node). resting (withPhase c Resting) (put t b (missed m)) 0 0) e))
 
   -- with two, the third drops the board
   pub third-drops : (b : ℕ) (n : Node) → n ≡ at t b → 2 ≤ n .misses → missedAt c t b ≡ droppedAt c t b
@@ -69,7 +64,7 @@ module _ (c : Coordinator) (t : List Node) where
       unfolding quietIn
       waited = ap (λ (p : Phase). quietIn p c t) w ∙ sym (choose-no _ _ _ _ (not-no (fits c t) h) (choose-no _ _ _ _ refl refl))
 
-      pub after-ack : a ≡ true → quietOf c t ≡ ended (withPhase c Resting) t 0
+      pub after-ack : a ≡ true → quietOf c t ≡ resting (withPhase c Resting) t 0 0
       after-ack k = waited ∙ sym (choose-yes _ _ _ _ k refl)
 
       pub unanswered : a ≡ false → quietOf c t ≡ missedAt c t b

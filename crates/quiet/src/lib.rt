@@ -3,31 +3,10 @@ use board::Table;
 use coordinator::Coordinator;
 use coordinator::Phase;
 use refusal::Refusal;
-use steps::Answer;
-use steps::Outcome;
 use steps::Stepped;
 ghost use mathlib.Core.Path.{_≡_};
 ghost use Rattle.steps.specs.After.{shown, shows};
 ghost use Rattle.steps.specs.Quiet.{stillHeld, droppedAt, missedAt, quietOf};
-ghost use Rattle.quiet.specs.Ended.{ended};
-
-// The panel rests; 0 where nobody is dropped.
-fn ended(coordinator: Coordinator, table: Table, dropped: usize) -> Stepped
-    ensures { λ r. ⌜ shown r ≡ shows (ended coordinator (table .nodes) dropped) ⌝ }
-{
-    let answer = Answer::Rest;
-    let outcome = Outcome {
-        answer: answer,
-        written: 0,
-        joined: 0,
-        dropped: dropped,
-    };
-    Stepped {
-        coordinator: coordinator,
-        table: table,
-        outcome: outcome,
-    }
-}
 
 // Joins are held no more where nobody is listed.
 fn still_held(coordinator: Coordinator, table: Table) -> Coordinator
@@ -47,7 +26,7 @@ fn drop_at(coordinator: Coordinator, table: Table, board: usize) -> Stepped
     let cleared = board::clear_at(table, board);
     let owed = board::owe_all(cleared);
     let rested = coordinator::with_phase(coordinator, Phase::Resting);
-    ended(still_held(rested, cleared), owed, board)
+    steps::resting(still_held(rested, cleared), owed, 0, board)
 }
 
 // The board did not answer: one miss more, and the third drops it.
@@ -58,7 +37,7 @@ fn miss_at(coordinator: Coordinator, table: Table, board: usize) -> Stepped
     if node.misses < 2 {
         let noted = board::put_at(table, board, board::missed(node));
         let rested = coordinator::with_phase(coordinator, Phase::Resting);
-        ended(rested, noted, 0)
+        steps::resting(rested, noted, 0, 0)
     } else {
         drop_at(coordinator, table, board)
     }
@@ -81,7 +60,7 @@ pub fn quiet(coordinator: Coordinator, table: Table) -> Stepped
         } => {
             if acked {
                 let rested = coordinator::with_phase(coordinator, Phase::Resting);
-                ended(rested, table, 0)
+                steps::resting(rested, table, 0, 0)
             } else {
                 miss_at(coordinator, table, board)
             }

@@ -9,12 +9,16 @@ use Rattle.refusal.proofs.Numbers.{same-refused, not-zero}
 use Rattle.setup.specs.declared.Judged.{Judged}
 use Rattle.setup.specs.declared.Judged.the-variants.{Fine, Refused}
 use Rattle.setup.specs.Setup.{toldOf}
+use Rattle.setup.proofs.is_mac.Reads as is-mac
 use Rattle.setup.proofs.is_pool.Reads as is-pool
 use Rattle.setup.proofs.shipped_pool.Reads as shipped-pool
 use Rattle.setup.proofs.address_at.Reads as address-at
 use Rattle.setup.proofs.setup_fits.Reads as setup-fits
 use Rattle.setup.proofs.judge_setup.Reads as judge-setup
 use Rattle.setup.proofs.table_fits.Reads as table-fits
+
+pub unique-is-mac : (a s t : _) (r q : Bool) → is-mac.Post tt a r s → is-mac.Post tt a q t → r ≡ q
+unique-is-mac a s t r q p p′ = p ∙ sym p′
 
 pub unique-is-pool : (κs : Lft × Unit {0}) (a s t : _) (r q : Bool) → is-pool.Post κs a r s → is-pool.Post κs a q t → r ≡ q
 unique-is-pool κs a s t r q p p′ = p ∙ sym p′

@@ -149,7 +149,7 @@ pub fn address_at(setup: Setup, position: usize) -> u8
 }
 
 // A MAC is 1 to 2^56 - 1.
-fn is_mac(mac: u64) -> bool
+pub fn is_mac(mac: u64) -> bool
     ensures { λ r. ⌜ r ≡ isMac mac ⌝ }
 {
     (0 < mac) & (mac < 0x100_0000_0000_0000)

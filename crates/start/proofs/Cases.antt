@@ -21,10 +21,6 @@ use Rattle.steps.specs.Start.{setupOf, startOf}
 abbrev pub made : List ℕ → ℕ → ℕ → ℕ → ℕ → After
 made a subnet internal mac session = accepted (fresh (setupOf a subnet internal mac session)) blankTable rests []
 
--- equals leave equals
-pub same-rested : {c d : Coordinator} {t u : List Node} → c ≡ d → t ≡ u → shows (accepted c t rests []) ≡ shows (accepted d u rests [])
-same-rested e f = λ i. shows (accepted (e i) (f i) rests [])
-
 -- a pool that is judged fine has at most forty addresses
 pub fine-length : (a : List ℕ) (mac : ℕ) → ruled (setupRules a mac) refuses (gives []) ≡ gives [] → length a ≤ 40
 fine-length a mac h = pool-told (length a) a (not-false (isPool a) (gave (setupRules a mac) [] [] h .0 .0)) .upTo

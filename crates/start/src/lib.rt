@@ -3,15 +3,12 @@ use board::Table;
 use coordinator::Coordinator;
 use setup::Judged;
 use setup::Setup;
-use steps::Answer;
-use steps::Outcome;
 use steps::Stepped;
 ghost use mathlib.Core.Path.{_≡_};
-ghost use mathlib.Core.List.{[]};
 ghost use Prim.Native.Nat.{_≤_};
 ghost use lib.ListN.{length, replicate};
 ghost use Rattle.ground.specs.Bytes.{laid};
-ghost use Rattle.steps.specs.After.{shown, shows, accepted, rests};
+ghost use Rattle.steps.specs.After.{shown, shows};
 ghost use Rattle.steps.specs.Start.{setupOf, startOf};
 
 // The addresses, and zeros in the places that they leave.
@@ -44,24 +41,6 @@ fn setup_of(addresses: &[u8], subnet: u8, internal: u8, mac: u64, session: u64) 
     }
 }
 
-// The step is accepted: the panel rests.
-fn rested(coordinator: Coordinator, table: Table) -> Stepped
-    ensures { λ r. ⌜ shown r ≡ shows (accepted coordinator (table .nodes) rests []) ⌝ }
-{
-    let answer = Answer::Rest;
-    let outcome = Outcome {
-        answer: answer,
-        written: 0,
-        joined: 0,
-        dropped: 0,
-    };
-    Stepped {
-        coordinator: coordinator,
-        table: table,
-        outcome: outcome,
-    }
-}
-
 // A table by value has forty records, so that only the pool and the MAC can be refused.
 pub fn start(
     coordinator: Coordinator,
@@ -81,7 +60,7 @@ pub fn start(
             let setup = setup_of(addresses, subnet, internal, mac, session);
             let fresh = coordinator::fresh(setup);
             let blank = coordinator::blank_table();
-            rested(fresh, blank)
+            steps::resting(fresh, blank, 0, 0)
         }
     }
 }

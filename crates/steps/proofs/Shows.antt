@@ -7,12 +7,14 @@ use lib.ListN.{getD}
 use Rattle.refusal.specs.Refusal.{Told, refuses}
 use Rattle.refusal.specs.declared.Refusal.{Refusal}
 use Rattle.refusal.proofs.Numbers.{not-zero, same-refused}
+use Rattle.board.specs.declared.Node.{Node}
+use Rattle.coordinator.specs.declared.Coordinator.{Coordinator}
 use Rattle.coordinator.specs.declared.Exchange.{Exchange}
 use Rattle.coordinator.specs.declared.Exchange.the-variants.{Offer, List as Listing, Forward, Return}
 use Rattle.steps.specs.declared.Answer.{Answer}
 use Rattle.steps.specs.declared.Answer.the-variants.{Wait, Deliver, Transmit, Rest, Refuse}
 use Rattle.steps.specs.declared.Stepped.{Stepped}
-use Rattle.steps.specs.After.{exchangeNumber, told, After, Shown, shown, Leaves}
+use Rattle.steps.specs.After.{exchangeNumber, told, After, resting, Shown, shown, shows, Leaves}
 
 -- the exchanges by their numbers
 exchangeAt : ℕ → Exchange
@@ -94,3 +96,7 @@ same-shown r q e =
 -- what is left may be said by any equal definition
 pub leaves-as : (r : Stepped) (before after : List ℕ) {a b : After} → a ≡ b → Leaves b r before after → Leaves a r before after
 leaves-as r before after e h = subst (λ (x : After). Leaves x r before after) (sym e) h
+
+-- a step that rests shows the same of equal coordinators and tables
+pub same-resting : {c d : Coordinator} {t u : List Node} (joined dropped : ℕ) → c ≡ d → t ≡ u → shows (resting c t joined dropped) ≡ shows (resting d u joined dropped)
+same-resting joined dropped e f = λ i. shows (resting (e i) (f i) joined dropped)

@@ -59,6 +59,10 @@ refused c t r = record { coordinator = c; nodes = t; says = refuses r; bytes = [
 abbrev pub accepted : Coordinator → List Node → Told → List ℕ → After
 accepted c t says bytes = record { coordinator = c; nodes = t; says = says; bytes = bytes; joined = 0; dropped = 0 }
 
+-- a step after which the panel rests, with the position joined and the one dropped, 0 for none (01, "Steps": "rest (all else that is accepted ..)")
+abbrev pub resting : Coordinator → List Node → ℕ → ℕ → After
+resting c t joined dropped = record { coordinator = c; nodes = t; says = rests; bytes = []; joined = joined; dropped = dropped }
+
 -- what the caller is shown beside the lent output: as above, with the count of the bytes written in their place
 pub record Shown : Type 0 where
   pub coordinator : Coordinator

@@ -5,7 +5,7 @@ use coordinator::Coordinator;
 use coordinator::Exchange;
 use refusal::Refusal;
 ghost use mathlib.Core.Path.{_≡_};
-ghost use Rattle.steps.specs.After.{shown, shows, refused};
+ghost use Rattle.steps.specs.After.{shown, shows, refused, resting};
 
 // What happens to the panel: a board has joined, it is the panel's turn, bytes came in, nothing came in.
 pub enum Event {
@@ -49,6 +49,24 @@ pub fn refusing(coordinator: Coordinator, table: Table, refusal: Refusal) -> Ste
         written: 0,
         joined: 0,
         dropped: 0,
+    };
+    Stepped {
+        coordinator: coordinator,
+        table: table,
+        outcome: outcome,
+    }
+}
+
+// A step after which the panel rests, with the position joined and the one dropped; nothing is written.
+pub fn resting(coordinator: Coordinator, table: Table, joined: usize, dropped: usize) -> Stepped
+    ensures { λ r. ⌜ shown r ≡ shows (resting coordinator (table .nodes) joined dropped) ⌝ }
+{
+    let answer = Answer::Rest;
+    let outcome = Outcome {
+        answer: answer,
+        written: 0,
+        joined: joined,
+        dropped: dropped,
     };
     Stepped {
         coordinator: coordinator,

@@ -1,7 +1,8 @@
 -- `quiet::drop_at` meets its contract: what each call gave.
+use Rattle.steps.proofs.Shows.{same-resting}
 use mathlib.Core.Path.{ap, _∙_}
 use Rattle.board.specs.Change.{oweAll}
-use Rattle.quiet.proofs.Waits.{same-ended, same-held}
+use Rattle.quiet.proofs.Waits.{same-held}
 use borrow.Author.Needs.{needs}
 use Rattle.quiet.proofs.drop_at.Statement.{statement}
 use Rattle.quiet.proofs.drop_at.Tie as tie
@@ -18,11 +19,11 @@ with-phase-requires c κs = search needs
 still-held-requires : tie.Need-still-held-requires
 still-held-requires c κs = search needs
 
-ended-requires : tie.Need-ended-requires
-ended-requires c κs = search needs
+resting-requires : tie.Need-resting-requires
+resting-requires c κs = search needs
 
 returns : tie.Need-returns
-returns c = c .ended .ensures ∙ same-ended _ (c .before .still-held .ensures ∙ same-held (c .before .before .with-phase .ensures) (c .before .before .before .before .clear-at .ensures)) (c .before .before .before .owe-all .ensures ∙ ap oweAll (c .before .before .before .before .clear-at .ensures))
+returns c = c .resting .ensures ∙ same-resting 0 _ (c .before .still-held .ensures ∙ same-held (c .before .before .with-phase .ensures) (c .before .before .before .before .clear-at .ensures)) (c .before .before .before .owe-all .ensures ∙ ap oweAll (c .before .before .before .before .clear-at .ensures))
 
 pub drop-at-spec : {M : Type 1} → statement M
 drop-at-spec =
@@ -32,5 +33,5 @@ drop-at-spec =
     owe-all-requires
     with-phase-requires
     still-held-requires
-    ended-requires
+    resting-requires
     returns)

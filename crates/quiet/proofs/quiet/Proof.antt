@@ -1,9 +1,10 @@
 -- `quiet::quiet` meets its contract: the cases of `Waits`.
+use Rattle.steps.proofs.Shows.{same-resting}
 use mathlib.Core.Path.{refl, sym, ap, _∙_}
 use borrow.Author.Tests.{not-true, not-false}
 use Rattle.steps.specs.After.{shows}
 use Rattle.steps.specs.Turn.{isAwaiting}
-use Rattle.quiet.proofs.Waits.{same-ended, no-wait, unfit, not-waiting, after-ack, unanswered}
+use Rattle.quiet.proofs.Waits.{no-wait, unfit, not-waiting, after-ack, unanswered}
 use borrow.Author.Needs.{needs}
 use Rattle.quiet.proofs.quiet.Statement.{statement}
 use Rattle.quiet.proofs.quiet.Tie as tie
@@ -26,8 +27,8 @@ enum-known-phase c = search needs
 with-phase-requires : tie.Need-with-phase-requires
 with-phase-requires c κs = search needs
 
-ended-requires : tie.Need-ended-requires
-ended-requires c κs = search needs
+resting-requires : tie.Need-resting-requires
+resting-requires c κs = search needs
 
 miss-at-requires : tie.Need-miss-at-requires
 miss-at-requires c κs = search needs
@@ -36,7 +37,7 @@ refusing-requires-2 : tie.Need-refusing-requires-2
 refusing-requires-2 c κs = search needs
 
 returns-2 : tie.Need-returns-2
-returns-2 c = c .ended .ensures ∙ same-ended 0 (c .before .with-phase .ensures) refl ∙ sym (ap shows (after-ack _ _ (sym (c .before .before .before .before .before .before .before .before .fits2 .ensures) ∙ not-false (c .before .before .before .before .before .before .before .before .fits2 .result) (c .before .before .before .before .before .before .before .if1 .left)) (sym (c .before .before .before .before .before .before .phase-of .ensures) ∙ c .before .before .before .before .phase .given .1) (c .before .before .if2 .taken)))
+returns-2 c = c .resting .ensures ∙ same-resting 0 0 (c .before .with-phase .ensures) refl ∙ sym (ap shows (after-ack _ _ (sym (c .before .before .before .before .before .before .before .before .fits2 .ensures) ∙ not-false (c .before .before .before .before .before .before .before .before .fits2 .result) (c .before .before .before .before .before .before .before .if1 .left)) (sym (c .before .before .before .before .before .before .phase-of .ensures) ∙ c .before .before .before .before .phase .given .1) (c .before .before .if2 .taken)))
 
 returns-3 : tie.Need-returns-3
 returns-3 c = c .miss-at .ensures ∙ sym (ap shows (unanswered _ _ (sym (c .before .before .before .before .before .before .before .fits2 .ensures) ∙ not-false (c .before .before .before .before .before .before .before .fits2 .result) (c .before .before .before .before .before .before .if1 .left)) (sym (c .before .before .before .before .before .phase-of .ensures) ∙ c .before .before .before .phase .given .1) (c .before .if2 .left)))
@@ -54,7 +55,7 @@ quiet-spec =
     phase-of-requires
     enum-known-phase
     with-phase-requires
-    ended-requires
+    resting-requires
     miss-at-requires
     refusing-requires-2
     returns-2

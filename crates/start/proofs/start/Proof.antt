@@ -1,10 +1,11 @@
 -- `start::start` meets its contract: what the judgement says is what setup does.
+use Rattle.steps.proofs.Shows.{same-resting}
 use mathlib.Core.Path.{sym, ap, _∙_}
 use lib.ListN.{length-map}
 use Rattle.setup.specs.Setup.{toldOf}
 use Rattle.coordinator.specs.Fresh.{fresh}
 use Rattle.steps.specs.After.{shows}
-use Rattle.start.proofs.Cases.{same-rested, fine-length, start-refused, start-fine}
+use Rattle.start.proofs.Cases.{fine-length, start-refused, start-fine}
 use borrow.Author.Needs.{needs}
 use Rattle.start.proofs.start.Statement.{statement}
 use Rattle.start.proofs.start.Tie as tie
@@ -30,8 +31,8 @@ fresh-requires c κs = search needs
 blank-table-requires : tie.Need-blank-table-requires
 blank-table-requires c κs = search needs
 
-rested-requires : tie.Need-rested-requires
-rested-requires c κs = search needs
+resting-requires : tie.Need-resting-requires
+resting-requires c κs = search needs
 
 returns : tie.Need-returns
 returns c =
@@ -44,8 +45,8 @@ returns c =
 
 returns-2 : tie.Need-returns-2
 returns-2 c =
-    c .rested .ensures ∙
-    same-rested (c .before .before .fresh .ensures ∙ ap fresh (c .before .before .before .setup-of .ensures)) (c .before .blank-table .ensures) ∙
+    c .resting .ensures ∙
+    same-resting 0 0 (c .before .before .fresh .ensures ∙ ap fresh (c .before .before .before .setup-of .ensures)) (c .before .blank-table .ensures) ∙
     sym (ap shows (start-fine
     (c .before .before .before .before .before .before .before .before .args .coordinator) (c .before .before .before .before .before .before .before .before .args .table .nodes) (c .before .before .before .before .before .before .before .before .args .addresses .now)
     (c .before .before .before .before .before .before .before .before .args .subnet) (c .before .before .before .before .before .before .before .before .args .internal) (c .before .before .before .before .before .before .before .before .args .mac) (c .before .before .before .before .before .before .before .before .args .session)
@@ -63,6 +64,6 @@ start-spec =
     setup-of-requires
     fresh-requires
     blank-table-requires
-    rested-requires
+    resting-requires
     returns
     returns-2)
