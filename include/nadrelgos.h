@@ -247,8 +247,8 @@ static inline unsigned nadrelgos_board(uint64_t answer) { return (unsigned)(answ
 /* What that board was sent, by enum nadrelgos_exchange_number; 0 in an answer that does not wait. */
 static inline unsigned nadrelgos_exchange(uint64_t answer) { return (unsigned)(answer >> 24 & 0xFF); }
 
-/* The position that a join gave: the lowest free one, or the board's own where its MAC is listed already. The board is to
-   have the address coordinator->setup.pool[position - 1]. */
+/* The position that a join gave: the lowest free one, or the board's own where its MAC is listed already. The board
+   is to have the address coordinator->setup.pool[position - 1]. */
 static inline unsigned nadrelgos_joined(uint64_t answer) { return (unsigned)(answer >> 32 & 0xFF); }
 
 /* The position that a quiet freed: its board left a third message in a row unanswered. */
