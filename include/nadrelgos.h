@@ -1,11 +1,12 @@
 /*
  * Nadrelgos: the coordinator of a ClimateTalk CT-485 bus, for firmware in C (C11) or C++ (C++11).
  *
- * Two functions, nadrelgos_setup and nadrelgos_step, stand in the archive libpanel.a, which `rt staticlib panel`
- * proves and writes. They are written in Rattle and proved to do what the definitions under crates/ say, for every
- * input; docs/PROMISES.md leads from each rule to its definition, its theorem and its code. This header is not
- * proved: it restates those definitions for whoever writes the firmware. The archive is for x86-64; the assertions
- * at the end stop a build whose records would be laid out otherwise.
+ * The archive libpanel.a, which `rt staticlib panel` proves and writes, has nadrelgos_setup, nadrelgos_step and, for
+ * tools, nadrelgos_amend. They are written in Rattle and proved to do what the definitions under crates/ say, for every
+ * input; docs/PROMISES.md leads from each rule to its definition, its theorem and its code. This header is not proved:
+ * it restates those definitions for whoever writes the firmware. The archive is for x86-64; the assertions at the end
+ * stop a build whose records would be laid out otherwise. Of C's library it needs memcpy; a call takes up to some 32
+ * kilobytes of stack, which `hosts/c/run stack` measures.
  *
  * WHO OWNS WHAT
  *   The host owns all memory: one coordinator record, forty node records, and the buffers. Nothing is allocated and
@@ -172,7 +173,7 @@ enum nadrelgos_refusal_number {
     NADRELGOS_BAD_METHOD = 9,      /* a request with a send method above 3 */
 
     /* what is written */
-    NADRELGOS_PAYLOAD_TOO_LONG = 10, /* a payload over 240 bytes to write. These two functions never give it */
+    NADRELGOS_PAYLOAD_TOO_LONG = 10, /* a payload over 240 bytes to write. These functions never give it */
     NADRELGOS_NO_ROOM = 11,          /* a turn or a frame: out is shorter than the frame due. Call again with more room,
                                         and for a frame with the same bytes. NADRELGOS_ROOM always suffices */
 
@@ -229,6 +230,28 @@ uint64_t nadrelgos_setup(struct nadrelgos_coordinator *coordinator, struct nadre
 uint64_t nadrelgos_step(struct nadrelgos_coordinator *coordinator, struct nadrelgos_node *nodes, size_t nodes_count,
                         uint8_t event, uint8_t kind, uint64_t mac, uint64_t session, const uint8_t *received,
                         size_t received_count, uint8_t *out, size_t out_count);
+
+/*
+ * Changes one node record, for tools and tests. A firmware has no need of it: boards are listed by joins and cleared by
+ * quiets, and what is promised of the list is promised of records that only setup and the steps have written.
+ *
+ *   nodes, nodes_count     the node records and their count, 40
+ *   change                 one of enum nadrelgos_change_number. Any other changes nothing
+ *   position               1 to 40. Any other names nobody, and nothing is changed
+ *   kind, mac, session     looked at in NADRELGOS_CHANGE_LIST only
+ *
+ * Whether the records are fit afterwards is not tested here: the next step tests it, and refuses 22 where they are not,
+ * as with a MAC that is listed twice or a board cleared that a wait names.
+ *
+ * Answers NADRELGOS_REST and all else 0, or refuses 22 where nodes_count is not 40.
+ */
+enum nadrelgos_change_number {
+    NADRELGOS_CHANGE_LIST = 1,  /* a new board's record there, whatever stood there: no misses, no list owed */
+    NADRELGOS_CHANGE_CLEAR = 2, /* the position freed: all zeros */
+    NADRELGOS_CHANGE_MARK = 3   /* the node list owed to the board there; a free position stays as it is */
+};
+uint64_t nadrelgos_amend(struct nadrelgos_node *nodes, size_t nodes_count, uint8_t change, size_t position,
+                         uint8_t kind, uint64_t mac, uint64_t session);
 
 /*
  * The parts of an answer, low byte first: the refusal's number, the answer, the board awaited, its exchange, the

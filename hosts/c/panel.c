@@ -1,6 +1,7 @@
 /*
- * A host for the panel: the loop that a firmware runs, with a line of text for each call. The wire is behind struct port
- * (port.h), the joining of boards behind bus_newcomer and bus_joined (bus.h): put your own there, and take the lines out.
+ * A host for the panel: the loop that a firmware runs, with a line of text for each call. The wire is behind struct
+ * port (port.h), the joining of boards behind bus_newcomer and bus_joined (bus.h): put your own there, and leave out
+ * the lines.
  */
 #include "bus.h"
 #include "nadrelgos.h"
@@ -53,12 +54,11 @@ static void tell(const char *event) {
     printf("%4u  %-5s ", panel.steps, event);
 }
 
-/* Whether the call was refused; tells it, and what the loop does about it. */
-static bool tell_refused(uint64_t answer, const char *then) {
+/* The number by which the call was refused, 0 where it was not; tells it, and what the loop does about it. */
+static unsigned tell_refused(uint64_t answer, const char *then) {
     unsigned refusal = nadrelgos_refusal(answer);
-    if (refusal == NADRELGOS_ACCEPTED) return false;
-    printf(" refused %u, %s: %s\n", refusal, refusal_name(refusal), then);
-    return true;
+    if (refusal) printf(" refused %u, %s: %s\n", refusal, refusal_name(refusal), then);
+    return refusal;
 }
 
 static void tell_table(void) {
@@ -78,7 +78,10 @@ static void send_written(const struct port *port, uint64_t answer) {
     if (nadrelgos_written(answer) > 0) port->send(port->line, panel.out, nadrelgos_written(answer));
 }
 
-/* A board that wants to join is listed, or has to wait: the panel takes a join between two offers. */
+/*
+ * A board that wants to join is listed, or has to wait: the panel takes one join between two offers. (Refused 12 or 13
+ * it would have to be given up; no board here has such a type or MAC.)
+ */
 static void let_join(void) {
     struct newcomer newcomer;
     if (!bus_newcomer(&bus, &newcomer)) return;
@@ -140,38 +143,57 @@ static void be_quiet(unsigned board) {
     }
 }
 
-/* Listens until the wait for this board is over. */
-static void hear_out(const struct port *port, unsigned board, unsigned exchange) {
+/* A frame has come in. Whether it ended the wait for this board. */
+static bool take_frame(const struct port *port, size_t count, unsigned board, unsigned exchange) {
+    uint64_t answer =
+        nadrelgos_frame(&panel.coordinator, panel.nodes, panel.received, count, panel.out, sizeof panel.out);
+    tell("frame");
+    printf(" %u bytes:", (unsigned)count);
+    if (tell_refused(answer, "listening on")) return false;
+    send_written(port, answer);
+    printf(" from the %s, ", board_name(board));
+    tell_taken(exchange, answer);
+    if (nadrelgos_answer(answer) == NADRELGOS_DELIVER) deliver(panel.received);
+    if (nadrelgos_answer(answer) != NADRELGOS_WAIT) return true;
+    port->start(port->line); /* the response to a forward is still to come */
+    return false;
+}
+
+/* Listens until the wait for this board is over. Frames that are refused do not stop the timer. */
+static void listen_for(const struct port *port, unsigned board, unsigned exchange) {
+    port->start(port->line);
     for (;;) {
         size_t count = port->receive(port->line, panel.received, sizeof panel.received);
-        if (count > 0) {
-            uint64_t answer = nadrelgos_frame(&panel.coordinator, panel.nodes, panel.received, count, panel.out,
-                                              sizeof panel.out);
-            tell("frame");
-            printf(" %u bytes:", (unsigned)count);
-            if (tell_refused(answer, "listening on")) continue;
-            send_written(port, answer);
-            printf(" from the %s, ", board_name(board));
-            tell_taken(exchange, answer);
-            if (nadrelgos_answer(answer) == NADRELGOS_DELIVER) deliver(panel.received);
-            if (nadrelgos_answer(answer) != NADRELGOS_WAIT) return;
-        } else if (port->quiet(port->line)) {
+        if (count > 0 && take_frame(port, count, board, exchange)) return;
+        if (port->quiet(port->line)) {
             be_quiet(board);
             return;
         }
     }
 }
 
-/* The panel's turn, and what comes of it. */
-static void take_turn(const struct port *port) {
+/* The panel's turn, and what comes of it. The number by which the turn was refused, 0 where it was not. */
+static unsigned take_turn(const struct port *port) {
     static const char *const sent[] = {"", "offer", "list", "request forwarded", "response returned"};
     uint64_t answer = nadrelgos_turn(&panel.coordinator, panel.nodes, panel.out, sizeof panel.out);
     tell("turn");
-    if (tell_refused(answer, "nothing to send")) return;
+    unsigned refusal = tell_refused(answer, "nothing to send");
+    if (refusal) return refusal;
     unsigned board = nadrelgos_board(answer), exchange = nadrelgos_exchange(answer);
     printf(" %s to the %s, %u bytes\n", sent[exchange], board_name(board), (unsigned)nadrelgos_written(answer));
     send_written(port, answer);
-    hear_out(port, board, exchange);
+    listen_for(port, board, exchange);
+    return NADRELGOS_ACCEPTED;
+}
+
+/* The fresh start. */
+static bool set_up(void) {
+    uint64_t answer = nadrelgos_setup(&panel.coordinator, panel.nodes, NADRELGOS_NODES, addresses, sizeof addresses,
+                                      SUBNET, ZONE_CONTROLLER, 0x1A2B00000001, 7);
+    printf("setup");
+    if (tell_refused(answer, "no panel")) return false;
+    printf(", %u addresses from %u on\n", (unsigned)panel.coordinator.setup.k, panel.coordinator.setup.pool[0]);
+    return true;
 }
 
 int main(void) {
@@ -179,17 +201,13 @@ int main(void) {
     struct port port = bus_port(&bus);
 
     printf("coordinator %u bytes, node %u bytes\n", (unsigned)sizeof panel.coordinator, (unsigned)sizeof *panel.nodes);
-    printf("before setup\n");
-    take_turn(&port); /* records of zeros are not fit */
+    take_turn(&port); /* a step before setup: records of zeros are not fit */
+    if (!set_up()) return 1;
 
-    uint64_t answer = nadrelgos_setup(&panel.coordinator, panel.nodes, NADRELGOS_NODES, addresses, sizeof addresses,
-                                      SUBNET, ZONE_CONTROLLER, 0x1A2B00000001, 7);
-    if (tell_refused(answer, "no panel")) return 1;
-    printf("setup, %u addresses\n", (unsigned)panel.coordinator.setup.k);
-
+    /* A firmware goes round for ever. Where something has written to the records, it starts afresh. */
     while (panel.steps < STEPS) {
         let_join();
-        take_turn(&port);
+        if (take_turn(&port) == NADRELGOS_STATE_UNFIT && !set_up()) return 1;
     }
     tell_table();
     return 0;

@@ -1,6 +1,6 @@
 /*
- * The serial line, as the panel's loop needs it. A firmware has a UART and a timer behind these three functions; this
- * host has the simulated bus of bus.c.
+ * The serial line and the reply timer, as the panel's loop needs them. A firmware has a UART and a timer behind these
+ * functions; this host has the simulated bus of bus.c.
  */
 #ifndef PORT_H
 #define PORT_H
@@ -18,7 +18,10 @@ struct port {
     /* The next frame that has come in, whole, at most `room` bytes of it. Its count, or 0 where none has come. */
     size_t (*receive)(void *line, uint8_t *bytes, size_t room);
 
-    /* Nothing was sent and nothing has come in for as long as a reply may take. */
+    /* Starts the reply timer. */
+    void (*start)(void *line);
+
+    /* Whether the reply timer has run out: the line is quiet. */
     bool (*quiet)(void *line);
 };
 

@@ -1,9 +1,10 @@
 /*
- * Measures the stack that one call of nadrelgos_setup or nadrelgos_step takes. Each call runs on a stack of its own, an
- * array painted with a pattern, and afterwards the lowest byte that is no longer the pattern tells how deep it went. A
- * call that does nothing is measured first and taken off. x86-64, as the archive is.
+ * Measures the stack that one call takes: its arguments and return address there, and all below. Each call runs on a
+ * stack of its own, an array painted with a pattern, and afterwards the lowest byte that is no longer the pattern tells
+ * how deep it went. A call that does nothing is measured first and taken off. x86-64, as the archive is.
  *
- * The steps are those of a full table, forty boards, with the longest payloads that a frame can carry.
+ * The steps are those of a full table, forty boards, with the longest payloads that a frame can carry: accepted and
+ * refused joins, lists, offers, requests by each method with their forwards and returns, misses, drops.
  */
 #include "nadrelgos.h"
 #include "wire.h"
@@ -27,8 +28,11 @@ static size_t received_count;
 
 static _Alignas(64) uint8_t stack[STACK];
 
+/* what is called: a step by its event's number, or one of these */
+enum { SETUP = 0, AMEND = 5, CALLS = 6, NOTHING = 255 };
+
 struct call {
-    uint8_t event; /* 0 for setup, 255 for nothing at all */
+    uint8_t event;
     uint8_t kind;
     uint64_t mac;
     uint64_t answer;
@@ -36,9 +40,12 @@ struct call {
 
 static void make(struct call *call) {
     switch (call->event) {
-    case 255: break;
-    case 0:
+    case NOTHING: break;
+    case SETUP:
         call->answer = nadrelgos_setup(&coordinator, nodes, NADRELGOS_NODES, pool, sizeof pool, SUBNET, 21, 9, 1);
+        break;
+    case AMEND:
+        call->answer = nadrelgos_amend(nodes, NADRELGOS_NODES, NADRELGOS_CHANGE_MARK, NADRELGOS_NODES, 0, 0, 0);
         break;
     default:
         call->answer = nadrelgos_step(&coordinator, nodes, NADRELGOS_NODES, call->event, call->kind, call->mac, 1,
@@ -67,8 +74,9 @@ static size_t depth(struct call *call) {
 
 /* ---- the deepest call of each kind */
 
-static size_t nothing, deepest[5]; /* by event, setup at 0 */
+static size_t nothing, deepest[CALLS];
 static unsigned calls, refused;
+static bool astray; /* something came out otherwise than this program means it to */
 
 static uint64_t measure(uint8_t event, uint8_t kind, uint64_t mac) {
     struct call call = {event, kind, mac, 0};
@@ -79,19 +87,26 @@ static uint64_t measure(uint8_t event, uint8_t kind, uint64_t mac) {
     return call.answer;
 }
 
-/* ---- the boards: MAC p at position p */
+/* ---- the boards: MAC p at position p, session 1 */
 
 static struct sender sender_at(unsigned p) {
-    struct sender sender = {coordinator.setup.pool[p - 1], SUBNET, nodes[p - 1].kind};
+    struct sender sender = {0, SUBNET, 0};
+    if (p == 0) {
+        astray = true;
+        return sender;
+    }
+    sender.address = coordinator.setup.pool[p - 1];
+    sender.kind = nodes[p - 1].kind;
     return sender;
 }
 
 static uint64_t acks(unsigned p) {
-    received_count = wire_ack(received, sender_at(p), nodes[p - 1].mac, nodes[p - 1].session);
+    received_count = wire_ack(received, sender_at(p), p, 1);
     return measure(NADRELGOS_EVENT_FRAME, 0, 0);
 }
 
-static uint64_t says(unsigned p, uint8_t type, uint8_t method, uint8_t parameter, const uint8_t *payload, size_t count) {
+static uint64_t says(unsigned p, uint8_t type, uint8_t method, uint8_t parameter, const uint8_t *payload,
+                     size_t count) {
     received_count = wire_frame(received, sender_at(p), type, 0, method, parameter, payload, count);
     return measure(NADRELGOS_EVENT_FRAME, 0, 0);
 }
@@ -107,13 +122,14 @@ static void one_turn(void) {
         acks(p);
 }
 
-/* The lists that are owed, then one offer. */
+/* The lists that are owed, forty at most, then one offer. */
 static void until_offered(void) {
-    size_t last;
-    do {
-        last = coordinator.last;
+    size_t last = coordinator.last;
+    for (unsigned i = 0; i <= NADRELGOS_NODES; i++) {
         one_turn();
-    } while (coordinator.last == last);
+        if (coordinator.last != last) return;
+    }
+    astray = true;
 }
 
 /* A request with the longest payload, by each method; the board that it is for answers, or is silent. */
@@ -123,7 +139,9 @@ static void carry(uint8_t method, uint8_t parameter, bool acknowledges, bool ans
     unsigned p = nadrelgos_board(measure(NADRELGOS_EVENT_TURN, 0, 0));
     says(p, TYPE_CONTROL, method, parameter, payload, sizeof payload);
     if (method == 0) return;
-    unsigned to = nadrelgos_board(measure(NADRELGOS_EVENT_TURN, 0, 0));
+    uint64_t forward = measure(NADRELGOS_EVENT_TURN, 0, 0);
+    unsigned to = nadrelgos_board(forward);
+    if (nadrelgos_exchange(forward) != NADRELGOS_FORWARD || nadrelgos_written(forward) != NADRELGOS_ROOM) astray = true;
     if (acknowledges) acks(to);
     if (answers) {
         says(to, TYPE_CONTROL + TYPE_RESPONSE, method, parameter, payload, sizeof payload);
@@ -134,22 +152,22 @@ static void carry(uint8_t method, uint8_t parameter, bool acknowledges, bool ans
 }
 
 int main(void) {
-    struct call empty = {255, 0, 0, 0};
+    struct call empty = {NOTHING, 0, 0, 0};
     nothing = depth(&empty);
 
     for (unsigned i = 0; i < sizeof pool; i++) pool[i] = (uint8_t)(FIRST_ADDRESS + i);
-    measure(0, 0, 0);
+    measure(SETUP, 0, 0);
     for (unsigned p = 1; p <= NADRELGOS_NODES; p++) {
-        if (nadrelgos_joined(measure(NADRELGOS_EVENT_JOIN, (uint8_t)(1 + p % KINDS), p)) != p) return 1;
+        if (nadrelgos_joined(measure(NADRELGOS_EVENT_JOIN, (uint8_t)(1 + p % KINDS), p)) != p) astray = true;
         measure(NADRELGOS_EVENT_JOIN, 1, 99); /* busy */
         until_offered();
     }
-    measure(NADRELGOS_EVENT_JOIN, 1, 99);                /* full */
-    measure(NADRELGOS_EVENT_JOIN, 1, NADRELGOS_NODES);   /* a board that comes back */
+    measure(NADRELGOS_EVENT_JOIN, 1, 99);              /* full */
+    measure(NADRELGOS_EVENT_JOIN, 1, NADRELGOS_NODES); /* a board that comes back */
     until_offered();
 
     carry(0, 0, false, false);
-    carry(1, 102, true, true); /* fan: the fourth type of its list is looked for last */
+    carry(1, 102, true, true); /* fan, heat */
     carry(1, 100, false, true);
     carry(2, FURNACE, true, false);
     carry(3, NADRELGOS_NODES, false, true);
@@ -163,11 +181,17 @@ int main(void) {
         measure(NADRELGOS_EVENT_TURN, 0, 0); /* nobody answers any more, until the first is dropped */
         measure(NADRELGOS_EVENT_QUIET, 0, 0);
     }
-    if (nodes[0].kind != 0) return 1;
+    if (nodes[0].kind != 0) astray = true;
+    measure(AMEND, 0, 0);
+    if (astray) {
+        printf("stack: the panel did not do what this program means to measure\n");
+        return 1;
+    }
 
     printf("stack of one call, in bytes, over %u calls on a full table (%u refused):\n", calls, refused);
-    printf("  setup %u, join %u, turn %u, frame %u, quiet %u\n", (unsigned)deepest[0],
+    printf("  setup %u, join %u, turn %u, frame %u, quiet %u, amend %u\n", (unsigned)deepest[SETUP],
            (unsigned)deepest[NADRELGOS_EVENT_JOIN], (unsigned)deepest[NADRELGOS_EVENT_TURN],
-           (unsigned)deepest[NADRELGOS_EVENT_FRAME], (unsigned)deepest[NADRELGOS_EVENT_QUIET]);
+           (unsigned)deepest[NADRELGOS_EVENT_FRAME], (unsigned)deepest[NADRELGOS_EVENT_QUIET],
+           (unsigned)deepest[AMEND]);
     return 0;
 }
