@@ -39,9 +39,13 @@ impl Coverage {
     pub fn note(&mut self, before: &Panel, line: &str, answer: Option<&str>, after: &Panel) {
         self.lines += 1;
         self.bytes += line.len() as u64 + 1;
-        let Some(answer) = answer else {
-            return self.count_case("passed over".to_string());
-        };
+        match answer {
+            Some(answer) => self.note_answer(before, line, answer, after),
+            None => self.count_case("passed over".to_string()),
+        }
+    }
+
+    fn note_answer(&mut self, before: &Panel, line: &str, answer: &str, after: &Panel) {
         let head = head(answer);
         *self.answers.entry(head.clone()).or_default() += 1;
         if let Some(number) = answer.strip_prefix("refuse ").and_then(|word| word.parse().ok()) {
@@ -196,14 +200,14 @@ fn due(before: &Panel) -> String {
 
 fn accepted_how(before: &Panel, line: &str, after: &Panel) -> String {
     let wait = waiting(before).unwrap_or("");
-    let Some(method) = request_method(line) else {
-        return wait.to_string();
-    };
     let fate = match after.coordinator.phase {
         Phase::ForwardDue { .. } => "passed on",
         _ => "discarded",
     };
-    format!("{wait}, method {method}, {fate}")
+    match request_method(line) {
+        Some(method) => format!("{wait}, method {method}, {fate}"),
+        None => wait.to_string(),
+    }
 }
 
 /// The method of the request in a `frame` line, if it holds one.
@@ -231,9 +235,7 @@ fn zero_taken(line: &str, head: &str) -> bool {
 
 /// The wait in which an ACK brought another session.
 fn session_changed(before: &Panel, line: &str, after: &Panel) -> Option<&'static str> {
-    let Phase::Waiting { board, exchange } = before.coordinator.phase else {
-        return None;
-    };
+    let (board, exchange) = before.coordinator.phase.awaited()?;
     let changed = before.record(board).session != after.records[board - 1].session;
     (changed && line.starts_with("frame ")).then_some(exchange.name())
 }
