@@ -9,6 +9,11 @@ use std::io;
 use std::path::Path;
 use std::time::{Duration, Instant};
 
+/// At most so many lines are printed; the file has them all.
+const SHOWN: usize = 60;
+/// Ends any wait.
+const PLAIN_LINE: &[u8] = b"quiet";
+
 /// An input that the two sides answer differently.
 #[derive(Clone, Debug)]
 pub struct Mismatch {
@@ -55,20 +60,18 @@ impl Mismatch {
     fn shrink_lines(&self, ours: &dyn Side, deadline: Instant) -> Left {
         let whole = self.input.strip_suffix(b"\n").unwrap_or(&self.input);
         let lines: Vec<&[u8]> = whole.split(|&byte| byte == b'\n').collect();
-        let joined = |lines: &[&[u8]]| [&lines.join(&b'\n')[..], b"\n"].concat();
         let mut fails = |lines: &[&[u8]]| self.differs(ours, &joined(lines));
-        // what follows the differing answer cannot matter, if all before it came
-        let cut = &lines[..self.difference.script_line(whole)];
-        let start = if fails(cut) { cut.to_vec() } else { lines.clone() };
-        let shrunk = shrink::shrink(start, deadline, &mut fails);
-        let input = joined(&shrunk.items);
-        let shown = String::from_utf8_lossy(&input).lines().map(|l| format!("  {l}\n")).collect();
-        Left { how: how(&shrunk, lines.len(), "lines"), input, shown }
+        // what follows the differing answer cannot matter, unless answers were lost
+        let cut = lines[..self.difference.script_line(whole)].to_vec();
+        let start = if fails(&cut) { cut } else { lines.clone() };
+        let shrunk = shrink::shrink(start, PLAIN_LINE, deadline, &mut fails);
+        let how = how(&shrunk, lines.len(), "lines");
+        Left { how, input: joined(&shrunk.items), shown: shown(&shrunk.items) }
     }
 
     fn shrink_bytes(&self, ours: &dyn Side, deadline: Instant) -> Left {
         let mut fails = |bytes: &[u8]| self.differs(ours, bytes);
-        let shrunk = shrink::shrink(self.input.clone(), deadline, &mut fails);
+        let shrunk = shrink::shrink(self.input.clone(), 0, deadline, &mut fails);
         let shown = format!("  {}\n", hex(&shrunk.items));
         Left { how: how(&shrunk, self.input.len(), "bytes"), input: shrunk.items, shown }
     }
@@ -83,6 +86,22 @@ struct Left {
     how: String,
     input: Vec<u8>,
     shown: String,
+}
+
+fn joined(lines: &[&[u8]]) -> Vec<u8> {
+    [&lines.join(&b'\n')[..], b"\n"].concat()
+}
+
+/// The lines set in; of many only the first and the last.
+fn shown(lines: &[&[u8]]) -> String {
+    let text = |lines: &[&[u8]]| -> String {
+        lines.iter().map(|line| format!("  {}\n", String::from_utf8_lossy(line))).collect()
+    };
+    if lines.len() <= SHOWN {
+        return text(lines);
+    }
+    let (first, last) = (&lines[..SHOWN / 2], &lines[lines.len() - SHOWN / 2..]);
+    format!("{}  ({} lines more)\n{}", text(first), lines.len() - SHOWN, text(last))
 }
 
 fn how<T>(shrunk: &Shrunk<T>, before: usize, what: &str) -> String {
@@ -133,6 +152,14 @@ mod tests {
         assert!(text.contains("shrunk from 3000 lines to 8 by "));
         let end = "its answer 8 differs:\n  ours       rest 1\n  reference  rest dropped 1\n";
         assert!(text.ends_with(end), "{text}");
+    }
+
+    #[test]
+    fn of_many_lines_the_middle_is_not_shown() {
+        let lines = vec![&b"quiet"[..]; SHOWN + 5];
+        assert_eq!(shown(&lines).lines().count(), SHOWN + 1);
+        assert!(shown(&lines).contains("\n  (5 lines more)\n"));
+        assert_eq!(shown(&lines[..2]), "  quiet\n  quiet\n");
     }
 
     #[test]
