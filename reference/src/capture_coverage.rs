@@ -3,6 +3,7 @@
 use crate::counts::Counts;
 use crate::finder::{self, Search, INPUT_LIMIT};
 use crate::frame::{self, MAX_PAYLOAD, OVERHEAD};
+use crate::refusal::Refusal;
 
 /// What the captures have to hold, all of them together.
 const REQUIRED: [&str; 18] = [
@@ -63,35 +64,21 @@ impl CaptureCoverage {
         }
     }
 
-    /// One search from here; gives the end of the frame that it found.
+    /// One search from here; gives the end of the frame that it found. The
+    /// last 11 places are no starts: the bytes from there on are too few.
     fn note_search(&mut self, line: &[u8], from: usize) -> Option<usize> {
-        let rest = &line[from..];
-        match finder::find(rest, usize::MAX) {
-            Search::Found { start, length, .. } => {
-                self.cases.count("search: found");
-                self.note_refused(rest, start);
-                self.note_frame(line, from, from + start, length);
-                Some(from + start + length)
-            }
-            _ => {
-                self.cases.count("search: nothing");
-                self.note_refused(rest, rest.len());
-                None
+        for start in from..line.len() {
+            match reading(&line[start..]) {
+                Ok(length) => {
+                    self.cases.count("search: found");
+                    self.note_frame(line, from, start, length);
+                    return Some(start + length);
+                }
+                Err(refusal) => self.refused[usize::from(refusal.number())] += 1,
             }
         }
-    }
-
-    /// What the reader says at each place before `end`; the last 11 are no
-    /// starts, and the bytes from there on are too few for it.
-    fn note_refused(&mut self, rest: &[u8], end: usize) {
-        for start in 0..end {
-            let rest = &rest[start..];
-            let length = rest.get(9).map_or(0, |&n| OVERHEAD + usize::from(n));
-            let candidate = rest.get(..length).unwrap_or(rest);
-            if let Err(refusal) = frame::read(candidate) {
-                self.refused[usize::from(refusal.number())] += 1;
-            }
-        }
+        self.cases.count("search: nothing");
+        None
     }
 
     fn note_frame(&mut self, line: &[u8], from: usize, start: usize, length: usize) {
@@ -158,6 +145,13 @@ impl CaptureCoverage {
         text.push_str("       0  start: refuse 1: at a start there are 12 bytes or more\n");
         text
     }
+}
+
+/// What the reader says of the bytes from a start on: of as many as the
+/// length byte asks for, if they are there. Gives the frame's length.
+fn reading(rest: &[u8]) -> Result<usize, Refusal> {
+    let length = rest.get(9).map_or(0, |&n| OVERHEAD + usize::from(n));
+    frame::read(rest.get(..length).unwrap_or(rest)).map(|_| length)
 }
 
 /// Whether a good frame begins behind a listed frame's first byte.

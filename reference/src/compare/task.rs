@@ -11,9 +11,10 @@ use std::io;
 use std::ops::Range;
 
 /// The lines of each script; it stays below the 1 MiB that `replay` reads.
-pub const SCRIPT_LINES: usize = 16_000;
-/// How many captures make a task.
-pub const CAPTURES: u64 = 400;
+const SCRIPT_LINES: usize = 16_000;
+/// How many captures make a task of the gate, and how many a seed of the soak.
+const CAPTURES: u64 = 100;
+const CAPTURES_A_SEED: u64 = 400;
 
 #[derive(Clone, Debug, PartialEq, Eq)]
 pub struct Task {
@@ -48,7 +49,7 @@ pub fn of_gate(scripts: u64, captures: u64) -> impl Iterator<Item = Task> + Send
 
 /// The soak's tasks: for each seed from this on a script and captures.
 pub fn of_soak(first: u64) -> impl Iterator<Item = Task> + Send {
-    (first..).map(|seed| Task { seed, lines: SCRIPT_LINES, captures: 0..CAPTURES })
+    (first..).map(|seed| Task { seed, lines: SCRIPT_LINES, captures: 0..CAPTURES_A_SEED })
 }
 
 impl Task {
