@@ -37,10 +37,9 @@ impl Coverage {
     fn note_answer(&mut self, before: &Panel, line: &Line, answer: &str, after: &Panel) {
         let head = head(answer);
         self.steps += u64::from(cases::is_step(&line.text) && head != "bad line");
-        self.answers.count(head.clone());
-        if head.starts_with("refuse ") {
-            self.refusals.count(head.clone());
-        }
+        let refused = head.starts_with("refuse ");
+        let counts = if refused { &mut self.refusals } else { &mut self.answers };
+        counts.count(head.clone());
         self.cases.count(cases::case(before, &line.text, &head, after));
         for case in cases::further(before, &line.text, answer, after) {
             self.cases.count(case);
@@ -104,7 +103,11 @@ impl Coverage {
         let (lines, steps, bytes) = (self.lines, self.steps, self.bytes);
         let mut text = format!("scripts: {lines} lines, {steps} of them steps, {bytes} bytes\n");
         text.push_str(&self.answers.section("answers"));
-        text.push_str(&self.refusals.section("refusals"));
+        text.push_str("\nrefusals\n");
+        for number in 1..=22 {
+            let name = format!("refuse {number}");
+            text.push_str(&format!("{:8}  {name}\n", self.refusals.of(&name)));
+        }
         text.push_str(&self.cases.section("cases"));
         text.push_str(&self.disturbances.section("disturbances"));
         text.push_str("\ncannot be met\n");

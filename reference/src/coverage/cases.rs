@@ -168,7 +168,7 @@ fn late_where(before: &Panel, line: &str) -> &'static str {
     let awaited = awaited.map(|(board, _)| before.address(board));
     match (awaited, bytes_of(line).get(1)) {
         (None, _) => "no wait",
-        (Some(address), Some(&source)) if address == source => "its own next wait",
+        (Some(address), Some(&source)) if address == source => "a later wait for it",
         _ => "the wait for another",
     }
 }
