@@ -58,6 +58,11 @@ kit_exec() { # PROGRAM [WORDS...]
     exec $kit_under ${kit_emulator:+"$kit_emulator"} "$kit_loader" --library-path "$kit_lib" "$@"
 }
 
+# Prints the command that runs a program, a word to a line.
+kit_words() { # PROGRAM [WORDS...]
+    printf '%s\n' ${kit_emulator:+"$kit_emulator"} "$kit_loader" --library-path "$kit_lib" "$@"
+}
+
 # Runs a program, and goes on.
 kit_run() { # PROGRAM [WORDS...]
     (kit_exec "$@")
