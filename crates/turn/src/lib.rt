@@ -32,11 +32,11 @@ fn sent(
     coordinator: Coordinator,
     table: Table,
     next: Coordinator,
-    settled: Table,
+    records: Table,
     board: usize,
     exchange: Exchange,
 ) -> Stepped
-    ensures { λ r. ⌜ shown r ≡ shownOf writing coordinator (table .nodes) next (settled .nodes) board exchange ⌝ }
+    ensures { λ r. ⌜ shown r ≡ shownOf writing coordinator (table .nodes) next (records .nodes) board exchange ⌝ }
 {
     match writing {
         Writing::Written(n) => {
@@ -48,7 +48,7 @@ fn sent(
             };
             Stepped {
                 coordinator: next,
-                table: settled,
+                table: records,
                 outcome: outcome,
             }
         }
@@ -147,13 +147,13 @@ fn send_list(coordinator: Coordinator, table: Table, board: usize, out: &mut [u8
 {
     let writing = message::write_list(coordinator.setup, table, board, out);
     let next = waiting(coordinator, board, Exchange::List, 0);
-    let settled = board::settle_at(table, board);
+    let unmarked = board::unmark_at(table, board);
     sent(
         writing,
         coordinator,
         table,
         next,
-        settled,
+        unmarked,
         board,
         Exchange::List,
     )
