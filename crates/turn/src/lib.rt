@@ -10,7 +10,6 @@ use frame::Writing;
 use refusal::Refusal;
 use setup::Setup;
 use steps::Answer;
-use steps::Outcome;
 use steps::Stepped;
 ghost use mathlib.Core.Path.{_≡_};
 ghost use Prim.Native.Nat.{_≤_};
@@ -39,19 +38,14 @@ fn sent(
     ensures { λ r. ⌜ shown r ≡ shownOf writing coordinator (table .nodes) next (records .nodes) board exchange ⌝ }
 {
     match writing {
-        Writing::Written(n) => {
-            let outcome = Outcome {
-                answer: Answer::Wait(board, exchange),
-                written: n,
-                joined: 0,
-                dropped: 0,
-            };
-            Stepped {
-                coordinator: next,
-                table: records,
-                outcome: outcome,
-            }
-        }
+        Writing::Written(n) => steps::leaving(
+            next,
+            records,
+            Answer::Wait(board, exchange),
+            n,
+            0,
+            0,
+        ),
         Writing::Refused(refusal) => steps::refusing(coordinator, table, refusal),
     }
 }
