@@ -10,13 +10,14 @@ use Rattle.board.proofs.record_at.Reads as record-at
 use Rattle.board.proofs.put_at.Reads as put-at
 use Rattle.board.proofs.joined_node.Reads as joined-node
 use Rattle.board.proofs.owe.Reads as owe
-use Rattle.board.proofs.told.Reads as told
+use Rattle.board.proofs.unmarked.Reads as unmarked
 use Rattle.board.proofs.heard.Reads as heard
 use Rattle.board.proofs.missed.Reads as missed
 use Rattle.board.proofs.renewed.Reads as renewed
 use Rattle.board.proofs.list_at.Reads as list-at
 use Rattle.board.proofs.clear_at.Reads as clear-at
-use Rattle.board.proofs.settle_at.Reads as settle-at
+use Rattle.board.proofs.mark_at.Reads as mark-at
+use Rattle.board.proofs.unmark_at.Reads as unmark-at
 use Rattle.board.proofs.lowest.Reads as lowest
 use Rattle.board.proofs.some_listed.Reads as some-listed
 use Rattle.board.proofs.next_listed.Reads as next-listed
@@ -43,8 +44,8 @@ unique-joined-node a s t r q p p′ = p ∙ sym p′
 pub unique-owe : (a s t : _) (r q : Node) → owe.Post tt a r s → owe.Post tt a q t → r ≡ q
 unique-owe a s t r q p p′ = p ∙ sym p′
 
-pub unique-told : (a s t : _) (r q : Node) → told.Post tt a r s → told.Post tt a q t → r ≡ q
-unique-told a s t r q p p′ = p ∙ sym p′
+pub unique-unmarked : (a s t : _) (r q : Node) → unmarked.Post tt a r s → unmarked.Post tt a q t → r ≡ q
+unique-unmarked a s t r q p p′ = p ∙ sym p′
 
 pub unique-heard : (a s t : _) (r q : Node) → heard.Post tt a r s → heard.Post tt a q t → r ≡ q
 unique-heard a s t r q p p′ = p ∙ sym p′
@@ -61,8 +62,11 @@ unique-list-at a s t r q p p′ = same-nodes r q (p ∙ sym p′)
 pub unique-clear-at : (a s t : _) (r q : Table) → clear-at.Post tt a r s → clear-at.Post tt a q t → r ≡ q
 unique-clear-at a s t r q p p′ = same-nodes r q (p ∙ sym p′)
 
-pub unique-settle-at : (a s t : _) (r q : Table) → settle-at.Post tt a r s → settle-at.Post tt a q t → r ≡ q
-unique-settle-at a s t r q p p′ = same-nodes r q (p ∙ sym p′)
+pub unique-mark-at : (a s t : _) (r q : Table) → mark-at.Post tt a r s → mark-at.Post tt a q t → r ≡ q
+unique-mark-at a s t r q p p′ = same-nodes r q (p ∙ sym p′)
+
+pub unique-unmark-at : (a s t : _) (r q : Table) → unmark-at.Post tt a r s → unmark-at.Post tt a q t → r ≡ q
+unique-unmark-at a s t r q p p′ = same-nodes r q (p ∙ sym p′)
 
 pub unique-lowest : (a s t : _) (r q : ℕ) → lowest.Post tt a r s → lowest.Post tt a q t → r ≡ q
 unique-lowest a s t r q p p′ = p ∙ sym p′

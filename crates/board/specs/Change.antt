@@ -14,8 +14,8 @@ abbrev pub owe : Node → Node
 owe n = record { kind = n .kind; mac = n .mac; session = n .session; misses = n .misses; owed = choose (isListed n) 1 (n .owed) }
 
 -- the list went out to the board (01, "Turn": "clearing that mark")
-abbrev pub told : Node → Node
-told n = record { kind = n .kind; mac = n .mac; session = n .session; misses = n .misses; owed = 0 }
+abbrev pub unmarked : Node → Node
+unmarked n = record { kind = n .kind; mac = n .mac; session = n .session; misses = n .misses; owed = 0 }
 
 -- a frame of the board was accepted (01, "Frame": "sets the board's misses to 0")
 abbrev pub heard : Node → Node

@@ -5,7 +5,7 @@ ghost use Prim.Native.Nat.{_+_, _≤_, _<_};
 ghost use Rattle.ground.specs.Below.{firstOr, upFrom};
 ghost use Rattle.board.specs.Node.{none};
 ghost use Rattle.board.specs.Table.{at, put};
-ghost use Rattle.board.specs.Change.{joinedNode, owe, told, heard, missed, renewed, oweAll};
+ghost use Rattle.board.specs.Change.{joinedNode, owe, unmarked, heard, missed, renewed, oweAll};
 ghost use Rattle.board.specs.Wanted.{wants, wantedAt, lowestOf, highestListed, ofKindBelow, indexOf, someListed};
 ghost use Rattle.board.specs.Round.{nextListed};
 use ground::least;
@@ -111,8 +111,8 @@ pub fn owe(node: Node) -> Node
 }
 
 // The record of a board that has been sent the list.
-pub fn told(node: Node) -> Node
-    ensures { λ r. ⌜ r ≡ told node ⌝ }
+pub fn unmarked(node: Node) -> Node
+    ensures { λ r. ⌜ r ≡ unmarked node ⌝ }
 {
     let mut n = node;
     n.owed = 0;
@@ -163,11 +163,18 @@ pub fn clear_at(table: Table, position: usize) -> Table
     put_at(table, position, blank_node())
 }
 
-// The table with the list no longer owed at a position.
-pub fn settle_at(table: Table, position: usize) -> Table
-    ensures { λ r. ⌜ r .nodes ≡ put (table .nodes) position (told (at (table .nodes) position)) ⌝ }
+// The table with the list owed to the board at a position.
+pub fn mark_at(table: Table, position: usize) -> Table
+    ensures { λ r. ⌜ r .nodes ≡ put (table .nodes) position (owe (at (table .nodes) position)) ⌝ }
 {
-    put_at(table, position, told(record_at(table, position)))
+    put_at(table, position, owe(record_at(table, position)))
+}
+
+// The table with the list no longer owed at a position.
+pub fn unmark_at(table: Table, position: usize) -> Table
+    ensures { λ r. ⌜ r .nodes ≡ put (table .nodes) position (unmarked (at (table .nodes) position)) ⌝ }
+{
+    put_at(table, position, unmarked(record_at(table, position)))
 }
 
 // Whether a record is what is looked for.

@@ -8,8 +8,6 @@ use coordinator::Stand;
 use refusal::Refusal;
 use setup::Judged;
 use setup::Setup;
-use steps::Answer;
-use steps::Outcome;
 use steps::Stepped;
 ghost use mathlib.Core.Path.{_≡_};
 ghost use mathlib.Core.Bool.{_&&_, _||_, not};
@@ -172,17 +170,12 @@ pub fn join(coordinator: Coordinator, table: Table, kind: u8, mac: u64, session:
             let k = setup.k;
             let position = chosen(table, k, mac);
             let node = joining(table, k, kind, mac, session);
-            let outcome = Outcome {
-                answer: Answer::Rest,
-                written: 0,
-                joined: position,
-                dropped: 0,
-            };
-            Stepped {
-                coordinator: coordinator::holding(coordinator, true),
-                table: board::owe_all(board::put_at(table, position, node)),
-                outcome: outcome,
-            }
+            steps::resting(
+                coordinator::holding(coordinator, true),
+                board::owe_all(board::put_at(table, position, node)),
+                position,
+                0,
+            )
         }
     }
 }

@@ -14,7 +14,7 @@ use Rattle.ground.proofs.Choices.{not-yes}
 use Rattle.board.specs.declared.Node.{Node}
 use Rattle.board.specs.Node.{none, isListed}
 use Rattle.board.specs.Table.{at, put, listedAt}
-use Rattle.board.specs.Change.{owe, told, heard, missed, renewed, oweAll}
+use Rattle.board.specs.Change.{owe, unmarked, heard, missed, renewed, oweAll}
 use Rattle.board.proofs.Positions.{listed-within}
 use Rattle.board.proofs.Changes.{put-length, at-put, at-put-other, at-owe-all, owe-all-length}
 use Rattle.setup.specs.Fitness.{Position, Listed, InRanges, FitTable}
@@ -29,8 +29,8 @@ pub record Follows (old new : Node) : Type 0 where
   pub misses : old .misses ≤ 2 → new .misses ≤ 2
   pub owed : old .owed ≤ 1 → new .owed ≤ 1
 
-pub told-follows : (n : Node) → Follows n (told n)
-told-follows n = record { kind = refl; mac = refl; misses = λ h. h; owed = λ h. omega arith }
+pub unmarked-follows : (n : Node) → Follows n (unmarked n)
+unmarked-follows n = record { kind = refl; mac = refl; misses = λ h. h; owed = λ h. omega arith }
 
 pub heard-follows : (n : Node) → Follows n (heard n)
 heard-follows n = record { kind = refl; mac = refl; misses = λ h. omega arith; owed = λ h. h }

@@ -16,7 +16,7 @@ use Rattle.board.specs.declared.Wanted.the-variants.{Owed, Listed as ListedOnes
 use Rattle.board.specs.Table.{at, put, listedAt}
 use Rattle.board.specs.Wanted.{wantedAt, lowestOf, someListed}
 use Rattle.board.specs.Round.{nextListed}
-use Rattle.board.specs.Change.{told}
+use Rattle.board.specs.Change.{unmarked}
 use Rattle.board.proofs.LowestWanted.{lowest-case}
 use Rattle.board.proofs.NextListed.{next-nearest}
 use Rattle.coordinator.specs.declared.Phase.{Phase}
@@ -28,7 +28,7 @@ use Rattle.coordinator.proofs.Phases.{listing, forwarding, returning}
 use Rattle.coordinator.proofs.Fitting.{Board, listed-told, some-listed, fits-in, board-listed, due-return}
 use Rattle.coordinator.proofs.Changing.{with-phase-fits, offered-fits}
 use Rattle.steps.specs.Turn.{owedTo, dueList, dueOffer, dueOwn, dueIn, turnRules, sent, turnIn, turnOf}
-use Rattle.lasting.proofs.Tables.{told-follows}
+use Rattle.lasting.proofs.Tables.{unmarked-follows}
 use Rattle.lasting.proofs.Keeps.{Keeps, accepted-keeps, Stays, rules-keep, put-stays, table-fit, phase-keeps}
 
 -- a list goes to a listed board
@@ -52,8 +52,8 @@ module _ (c : Coordinator) (t : List Node) (h : fits c t ≡ true) (s : someList
   unfolding phaseFits
   list-keeps e = accepted-keeps c t _ (phase-keeps c t h _ cleared (c .kept) (listing (owedTo c t)) (both (listedAt t (owedTo c t)) true (owed-listed c t e) refl)) refl refl
     where
-      cleared : Stays (c .setup .k) t (put t (owedTo c t) (told (at t (owedTo c t))))
-      cleared = put-stays (c .setup .k) t (table-fit c t h) (owedTo c t) (told (at t (owedTo c t))) (listed-told t (owedTo c t) (owed-listed c t e)) (told-follows (at t (owedTo c t)))
+      cleared : Stays (c .setup .k) t (put t (owedTo c t) (unmarked (at t (owedTo c t))))
+      cleared = put-stays (c .setup .k) t (table-fit c t h) (owedTo c t) (unmarked (at t (owedTo c t))) (listed-told t (owedTo c t) (owed-listed c t e)) (unmarked-follows (at t (owedTo c t)))
 
   own-keeps : Keeps c t (sent (dueOwn c t))
   unfolding choose

@@ -11,8 +11,6 @@ use steps::Stepped;
 ghost use mathlib.Core.Path.{_≡_};
 ghost use lib.ListN.{length};
 ghost use Rattle.ground.specs.Bytes.{laid};
-ghost use Rattle.board.specs.Table.{at, put};
-ghost use Rattle.board.specs.Change.{owe};
 ghost use Rattle.steps.specs.After.{shown, shows, told, exchangeNumber};
 ghost use Rattle.lent.specs.Lent.{countedStep, countedSetup};
 ghost use Rattle.refusal.specs.Refusal.{refuses};
@@ -72,17 +70,6 @@ pub fn counted_setup(
     )
 }
 
-// The table with the list owed to the board at a position.
-fn mark_at(table: Table, position: usize) -> Table
-    ensures { λ r. ⌜ r .nodes ≡ put (table .nodes) position (owe (at (table .nodes) position)) ⌝ }
-{
-    board::put_at(
-        table,
-        position,
-        board::owe(board::record_at(table, position)),
-    )
-}
-
 // The table with one record changed: 1 lists a board, 2 clears the position, 3 marks the list as owed.
 fn amend_at(table: Table, change: u8, position: usize, kind: u8, mac: u64, session: u64) -> Table
     ensures { λ r. ⌜ r .nodes ≡ amended (table .nodes) change position kind mac session ⌝ }
@@ -94,7 +81,7 @@ fn amend_at(table: Table, change: u8, position: usize, kind: u8, mac: u64, sessi
         return board::clear_at(table, position);
     }
     if change == 3 {
-        return mark_at(table, position);
+        return board::mark_at(table, position);
     }
     table
 }

@@ -150,7 +150,7 @@ unfolding receiveIn
 taken-of c t b room a = go (phaseOf (c .stand)) refl (not-false _ (ok .1 .1 .1 .1 .1 .1 .0))
   where
     ok : Passed (receiveRules (phaseOf (c .stand)) c t b)
-    ok = unrefused (λ (x : After). x .says .number) (receiveRules (phaseOf (c .stand)) c t b) (refused c t) (takenIn (phaseOf (c .stand)) c t (headerOf b) (payload b) room) (λ q. not-zero q) a
+    ok = unrefused (λ (x : After). x .says .number ≡ 0) (receiveRules (phaseOf (c .stand)) c t b) (refused c t) (takenIn (phaseOf (c .stand)) c t (headerOf b) (payload b) room) (λ q. not-zero q) a
 
     value : receiveOf c t b room ≡ takenIn (phaseOf (c .stand)) c t (headerOf b) (payload b) room
     value = passed (receiveRules (phaseOf (c .stand)) c t b) (refused c t) (takenIn (phaseOf (c .stand)) c t (headerOf b) (payload b) room) ok

@@ -39,9 +39,9 @@ use Rattle.coordinator.specs.Phase.{phaseOf}
 use Rattle.coordinator.specs.Fit.{fits}
 use Rattle.coordinator.specs.Change.{withPhase}
 use Rattle.steps.specs.declared.Stepped.{Stepped}
-use Rattle.steps.specs.After.{After, Shown, shown, shows, refused, accepted, rests, Leaves}
+use Rattle.steps.specs.After.{After, Shown, shown, shows, leaving, refused, accepted, rests, Leaves}
 use Rattle.steps.specs.Receive.{hear, acking, acked, heardIn, takenAs, payload, receiveIn, receiveOf}
-use Rattle.receive.specs.Parts.{accepting, waited, listened}
+use Rattle.receive.specs.Parts.{waited, listened}
 
 -- a refusal leaves the output as it was
 pub leaves-refused : (r : Stepped) (o : List ℕ) (c : Coordinator) (t : List Node) (q : Refusal) {a : After} → a ≡ refused c t q → shown r ≡ shows (refused c t q) → Leaves a r o o
@@ -66,7 +66,7 @@ leaves-ack r o e board requester c {t} {u} q h = leaves-as r o o (ap (acked e bo
 
 -- what the caller is shown of an ACK that is due, by what its writing gave
 abbrev ackShown : Writing → Coordinator → List Node → List Node → Told → Coordinator → Shown
-ackShown (Written n) c t nodes says after = accepting after nodes says n
+ackShown (Written n) c t nodes says after = leaving after nodes says n 0 0
 ackShown (NotWritten q) c t nodes says after = shows (refused c t q)
 
 -- of the writing of an ACK only 11 can be given, and its frame has 29 bytes
@@ -89,7 +89,7 @@ module _ (c : Coordinator) (t : List Node) (board : ℕ) (says : Told) (after : 
 
       go : (b : Bool) → toldWritten w ≡ choose b (refuses NoRoom) (gives (29 ∷ [])) → left ≡ laid (choose b [] bytes) before → Leaves (choose b (refused c t NoRoom) (accepted after (hear t board) says bytes)) r before left
       go true h l = (e ∙ ap (λ (v : Writing). ackShown v c t (hear t board) says after) (same-written w (NotWritten NoRoom) h), l)
-      go false h l = (e ∙ ap (λ (v : Writing). ackShown v c t (hear t board) says after) (same-written w (Written 29) h) ∙ ap (accepting after (hear t board) says) (sym (signed-long (c .setup) t board ackCode)), l)
+      go false h l = (e ∙ ap (λ (v : Writing). ackShown v c t (hear t board) says after) (same-written w (Written 29) h) ∙ ap (λ (n : ℕ). leaving after (hear t board) says n 0 0) (sym (signed-long (c .setup) t board ackCode)), l)
 
 module _ (c : Coordinator) (t : List Node) (h : Header) (p : List ℕ) (room : ℕ) where
   -- a frame in a wait: 6 from another source

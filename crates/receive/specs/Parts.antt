@@ -3,7 +3,7 @@ use Prim.Native.Nat.{ℕ}
 use mathlib.Core.Bool.{Bool, not}
 use mathlib.Core.List.{List, [], _∷_}
 use lib.Dec.{eqb}
-use Rattle.refusal.specs.Refusal.{Told, ruled}
+use Rattle.refusal.specs.Refusal.{ruled}
 use Rattle.refusal.specs.declared.Refusal.the-variants.{NotForUs, NotAwaited}
 use Rattle.frame.specs.declared.Header.{Header}
 use Rattle.board.specs.declared.Node.{Node}
@@ -11,12 +11,8 @@ use Rattle.setup.specs.Setup.{address}
 use Rattle.coordinator.specs.declared.Coordinator.{Coordinator}
 use Rattle.coordinator.specs.declared.Exchange.{Exchange}
 use Rattle.coordinator.specs.declared.Phase.{Phase}
-use Rattle.steps.specs.After.{After, Shown, refused}
+use Rattle.steps.specs.After.{After, refused}
 use Rattle.steps.specs.Receive.{awaits, heardIn, takenAs, takenIn}
-
--- what a step that is accepted shows, with so many bytes written
-abbrev pub accepting : Coordinator → List Node → Told → ℕ → Shown
-accepting c t says written = record { coordinator = c; nodes = t; says = says; written = written; joined = 0; dropped = 0 }
 
 -- what a frame does in a wait: 6 from another source (01, "Numbers")
 unfoldable pub waited : Exchange → ℕ → ℕ → Bool → Coordinator → List Node → Header → List ℕ → ℕ → After

@@ -10,7 +10,6 @@ use frame::Reading;
 use frame::Writing;
 use refusal::Refusal;
 use steps::Answer;
-use steps::Outcome;
 use steps::Stepped;
 ghost use mathlib.Core.Path.{_≡_};
 ghost use Prim.Native.Nat.{_≤_};
@@ -19,7 +18,7 @@ ghost use Rattle.ground.specs.Bytes.{laid};
 ghost use Rattle.coordinator.specs.Phase.{phaseOf};
 ghost use Rattle.steps.specs.After.{told, shown, shows, Leaves};
 ghost use Rattle.steps.specs.Receive.{keptOf, hear, hearAck, acked, acking, routed, heardIn, takenAs, receiveOf};
-ghost use Rattle.receive.specs.Parts.{accepting, waited, listened};
+ghost use Rattle.receive.specs.Parts.{waited, listened};
 
 // The payload as it is kept: the bytes, and zeros past them.
 fn payload_of(payload: &[u8]) -> [u8; 240]
@@ -70,23 +69,6 @@ fn hear_ack(table: Table, board: usize, session: u64) -> Table
     board::owe_all(board::put_at(table, board, node))
 }
 
-// A step that is accepted; it joins nobody and drops nobody.
-fn accepting(coordinator: Coordinator, table: Table, answer: Answer, written: usize) -> Stepped
-    ensures { λ r. ⌜ shown r ≡ accepting coordinator (table .nodes) (told answer) written ⌝ }
-{
-    let outcome = Outcome {
-        answer: answer,
-        written: written,
-        joined: 0,
-        dropped: 0,
-    };
-    Stepped {
-        coordinator: coordinator,
-        table: table,
-        outcome: outcome,
-    }
-}
-
 // Where a request goes on: kept for its board, or discarded where there is none.
 fn routed(
     coordinator: Coordinator,
@@ -128,11 +110,11 @@ fn acked(
                 acked: true,
             };
             let waiting = coordinator::with_phase(coordinator, phase);
-            accepting(waiting, table, Answer::Wait(board, exchange), 0)
+            steps::leaving(waiting, table, Answer::Wait(board, exchange), 0, 0, 0)
         }
         _ => {
             let rested = coordinator::with_phase(coordinator, Phase::Resting);
-            accepting(rested, table, Answer::Rest, 0)
+            steps::resting(rested, table, 0, 0)
         }
     }
 }
@@ -149,7 +131,7 @@ fn acking(
     ensures { λ r. ⌜ Leaves (acking coordinator (table .nodes) board (length (now (out .entry))) (told answer) after) r (now (out .entry)) (now (out .exit)) ⌝ }
 {
     match message::write_signed(coordinator.setup, table, board, 6, out) {
-        Writing::Written(n) => accepting(after, hear(table, board), answer, n),
+        Writing::Written(n) => steps::leaving(after, hear(table, board), answer, n, 0, 0),
         Writing::Refused(refusal) => steps::refusing(coordinator, table, refusal),
     }
 }

@@ -20,25 +20,22 @@ unfolding choose
 passed [] f v h = refl
 passed (rule ∷ rules) f v h = rw (h .0) (passed rules f v (h .1))
 
+-- an answer of which something holds that holds of no refusal passed every rule
+pub unrefused {ℓ κ} : {A : Type ℓ} (Accepted : A → Type κ) (rules : List (Bool × Refusal)) (f : Refusal → A) (v : A) → ((q : Refusal) → Accepted (f q) → ⊥) → Accepted (ruled rules f v) → Passed rules
+unfolding choose
+unrefused Accepted [] f v never h = tt
+unrefused Accepted (rule ∷ rules) f v never h = go (unrefused Accepted rules f v never) (rule .0) refl h
+  where
+    go : (Accepted (ruled rules f v) → Passed rules) → (b : Bool) → rule .0 ≡ b → Accepted (choose b (f (rule .1)) (ruled rules f v)) → Passed (rule ∷ rules)
+    go rest true e h = absurd (never (rule .1) h)
+    go rest false e h = (e, rest h)
+
 -- an answer that gives values passed every rule, and they are its values
 pub gave : (rules : List (Bool × Refusal)) (us vs : List ℕ) → ruled rules refuses (gives us) ≡ gives vs → Passed rules × (us ≡ vs)
-unfolding choose
-gave [] us vs h = (tt, ap (λ (t : Told). t .values) h)
-gave (rule ∷ rules) us vs h = go (gave rules us vs) (rule .0) refl h
+gave rules us vs h = (ok, ap (λ (t : Told). t .values) (sym (passed rules refuses (gives us) ok) ∙ h))
   where
-    go : (ruled rules refuses (gives us) ≡ gives vs → Passed rules × (us ≡ vs)) → (b : Bool) → rule .0 ≡ b → choose b (refuses (rule .1)) (ruled rules refuses (gives us)) ≡ gives vs → Passed (rule ∷ rules) × (us ≡ vs)
-    go rest true e q = absurd (not-zero (rule .1) (ap (λ (t : Told). t .number) q))
-    go rest false e q = ((e, rest q .0), rest q .1)
-
--- an answer from which a 0 is read that is read off no refusal passed every rule
-pub unrefused {ℓ} : {A : Type ℓ} (g : A → ℕ) (rules : List (Bool × Refusal)) (f : Refusal → A) (v : A) → ((q : Refusal) → g (f q) ≡ 0 → ⊥) → g (ruled rules f v) ≡ 0 → Passed rules
-unfolding choose
-unrefused g [] f v n h = tt
-unrefused g (rule ∷ rules) f v n h = go (unrefused g rules f v n) (rule .0) refl h
-  where
-    go : (g (ruled rules f v) ≡ 0 → Passed rules) → (b : Bool) → rule .0 ≡ b → g (choose b (f (rule .1)) (ruled rules f v)) ≡ 0 → Passed (rule ∷ rules)
-    go rest true e q = absurd (n (rule .1) q)
-    go rest false e q = (e, rest q)
+    ok : Passed rules
+    ok = unrefused (λ (t : Told). t ≡ gives vs) rules refuses (gives us) (λ q e. not-zero q (ap (λ (t : Told). t .number) e)) h
 
 -- an answer that refuses does so for anything that the same rules guard
 pub refused {ℓ} : {A : Type ℓ} (rules : List (Bool × Refusal)) (us : List ℕ) (f : Refusal → A) (v : A) (q : Refusal) → ruled rules refuses (gives us) ≡ refuses q → ruled rules f v ≡ f q
@@ -96,18 +93,8 @@ module _ {ℓ} {A : Type ℓ} (f : Refusal → A) (v : A) (apart : (r q : Refusa
       only false h = (refl, h)
 
 -- nothing is refused exactly when no rule holds, in any reading of that which fits the value and no refusal
-module _ {ℓ κ} {A : Type ℓ} (Accepted : A → Type κ) (f : Refusal → A) (v : A) (value : Accepted v) (never : (q : Refusal) → Accepted (f q) → ⊥) where
-  only-passed : (rules : List (Bool × Refusal)) → Accepted (ruled rules f v) → Passed rules
-  unfolding choose
-  only-passed [] h = tt
-  only-passed (rule ∷ rules) h = go (rule .0) refl (only-passed rules) h
-    where
-      go : (b : Bool) → rule .0 ≡ b → (Accepted (ruled rules f v) → Passed rules) → Accepted (choose b (f (rule .1)) (ruled rules f v)) → Passed (rule ∷ rules)
-      go true e rest h = absurd (never (rule .1) h)
-      go false e rest h = (e, rest h)
-
-  pub accepted-exactly : (rules : List (Bool × Refusal)) → Accepted (ruled rules f v) ↔ Passed rules
-  accepted-exactly rules = (only-passed rules, λ h. rw (passed rules f v h) value)
+pub accepted-exactly {ℓ κ} : {A : Type ℓ} (Accepted : A → Type κ) (f : Refusal → A) (v : A) → Accepted v → ((q : Refusal) → Accepted (f q) → ⊥) → (rules : List (Bool × Refusal)) → Accepted (ruled rules f v) ↔ Passed rules
+accepted-exactly Accepted f v value never rules = (unrefused Accepted rules f v never, λ h. rw (passed rules f v h) value)
 
 -- what holds of each refusal that a rule says, where it holds and those before it do not
 abbrev pub Each {ℓ} : (Refusal → Type ℓ) → List (Bool × Refusal) → Type ℓ

@@ -9,7 +9,7 @@ use Rattle.ground.specs.Choose.{choose}
 use Rattle.board.specs.declared.Node.{Node}
 use Rattle.board.specs.Table.{at, put, listedAt}
 use Rattle.board.specs.Round.{nextListed}
-use Rattle.board.specs.Change.{told}
+use Rattle.board.specs.Change.{unmarked}
 use Rattle.coordinator.specs.declared.Phase.{Phase}
 use Rattle.coordinator.specs.declared.Phase.the-variants.{Resting, Awaiting, ForwardDue, ReturnDue, Unknown}
 use Rattle.coordinator.specs.declared.Coordinator.{Coordinator}
@@ -35,8 +35,8 @@ module _ (s : Seen) (c : Coordinator) (t : List Node) (h : fits c t ≡ true) (g
       board : Board c t (owedTo c t)
       board = board-listed c t h (owedTo c t) (owed-listed c t e)
 
-      change : Changes t (put t (owedTo c t) (told (at t (owedTo c t)))) (owedTo c t) (listedAt t (owedTo c t)) (at t (owedTo c t) .misses)
-      change = put-changes t (owedTo c t) (told (at t (owedTo c t))) (board .from) (inside c t h board) refl refl
+      change : Changes t (put t (owedTo c t) (unmarked (at t (owedTo c t)))) (owedTo c t) (listedAt t (owedTo c t)) (at t (owedTo c t) .misses)
+      change = put-changes t (owedTo c t) (unmarked (at t (owedTo c t))) (board .from) (inside c t h board) refl refl
 
   own-tells : Told s t Turn [] (sent (dueOwn c t))
   unfolding choose

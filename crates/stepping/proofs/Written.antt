@@ -47,7 +47,7 @@ module _ (c : Coordinator) (t : List Node) where
       go (inl e) = inr (dueIn (phaseOf (c .stand)) c t .board, turn-goes c t room (dueIn (phaseOf (c .stand)) c t .board) (dueIn (phaseOf (c .stand)) c t .exchange) (ap (λ (a : After). a .says) taken))
         where
           ok : Passed (turnRules (phaseOf (c .stand)) c t room)
-          ok = unrefused (λ (a : After). a .says .number) (turnRules (phaseOf (c .stand)) c t room) (refused c t) (sent (dueIn (phaseOf (c .stand)) c t)) (λ q. not-zero q) e
+          ok = unrefused (λ (a : After). a .says .number ≡ 0) (turnRules (phaseOf (c .stand)) c t room) (refused c t) (sent (dueIn (phaseOf (c .stand)) c t)) (λ q. not-zero q) e
 
           taken : turnOf c t room ≡ sent (dueIn (phaseOf (c .stand)) c t)
           taken = passed (turnRules (phaseOf (c .stand)) c t room) (refused c t) (sent (dueIn (phaseOf (c .stand)) c t)) ok

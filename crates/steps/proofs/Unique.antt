@@ -2,8 +2,12 @@
 use mathlib.Core.Path.{_≡_, sym, _∙_}
 use Rattle.steps.specs.declared.Stepped.{Stepped}
 use Rattle.steps.proofs.Shows.{same-shown}
+use Rattle.steps.proofs.leaving.Reads as leaving
 use Rattle.steps.proofs.refusing.Reads as refusing
 use Rattle.steps.proofs.resting.Reads as resting
+
+pub unique-leaving : (a s t : _) (r q : Stepped) → leaving.Post tt a r s → leaving.Post tt a q t → r ≡ q
+unique-leaving a s t r q p p′ = same-shown r q (p ∙ sym p′)
 
 pub unique-refusing : (a s t : _) (r q : Stepped) → refusing.Post tt a r s → refusing.Post tt a q t → r ≡ q
 unique-refusing a s t r q p p′ = same-shown r q (p ∙ sym p′)

@@ -94,6 +94,10 @@ shows a =
       dropped = a .dropped;
     }
 
+-- what is shown of a step that leaves this coordinator and these records, with what its answer says, the count of the bytes written and the positions joined and dropped
+abbrev pub leaving : Coordinator → List Node → Told → ℕ → ℕ → ℕ → Shown
+leaving c t says written joined dropped = record { coordinator = c; nodes = t; says = says; written = written; joined = joined; dropped = dropped }
+
 -- what a function leaves, in its answer and in the output that it was lent: the caller is shown it, and its bytes stand at the front (01, "On success, output past the frame keeps its bytes")
 abbrev pub Leaves : After → Stepped → List ℕ → List ℕ → Type 0
 Leaves a r before after = (shown r ≡ shows a) × (after ≡ laid (a .bytes) before)

@@ -15,7 +15,7 @@ use Rattle.board.specs.declared.Wanted.the-variants.{Owed}
 use Rattle.board.specs.Table.{at, put}
 use Rattle.board.specs.Wanted.{lowestOf, someListed, indexOf}
 use Rattle.board.specs.Round.{nextListed}
-use Rattle.board.specs.Change.{told as settled}
+use Rattle.board.specs.Change.{unmarked}
 use Rattle.nodelist.specs.List.{nodeList}
 use Rattle.message.specs.Message.{listHeader, signedHeader, toBoard, signed, offerCode}
 use Rattle.coordinator.specs.declared.Coordinator.{Coordinator}
@@ -74,7 +74,7 @@ dueList c t board =
       header = listHeader (c .setup) t board;
       payload = nodeList (c .setup .internal) t;
       coordinator = withPhase c (Awaiting board Listing 0 false);
-      nodes = put t board (settled (at t board));
+      nodes = put t board (unmarked (at t board));
     }
 
 -- an offer to a board: R2R, type 0, packet number 0x80 (01, "Turn"; 003, 6.1 Table 48 and 4.3); it is the last one offered, and joins are held no more

@@ -5,7 +5,7 @@ use coordinator::Coordinator;
 use coordinator::Exchange;
 use refusal::Refusal;
 ghost use mathlib.Core.Path.{_≡_};
-ghost use Rattle.steps.specs.After.{shown, shows, refused, resting};
+ghost use Rattle.steps.specs.After.{told, shown, shows, leaving, refused, resting};
 
 // What happens to the panel: a board has joined, it is the panel's turn, bytes came in, nothing came in.
 pub enum Event {
@@ -39,32 +39,20 @@ pub struct Stepped {
     pub outcome: Outcome,
 }
 
-// A step that refuses: all is as it was, and nothing is written.
-pub fn refusing(coordinator: Coordinator, table: Table, refusal: Refusal) -> Stepped
-    ensures { λ r. ⌜ shown r ≡ shows (refused coordinator (table .nodes) refusal) ⌝ }
+// A step with its answer, the count of bytes written, the position joined and the one dropped, 0 for none.
+pub fn leaving(
+    coordinator: Coordinator,
+    table: Table,
+    answer: Answer,
+    written: usize,
+    joined: usize,
+    dropped: usize,
+) -> Stepped
+    ensures { λ r. ⌜ shown r ≡ leaving coordinator (table .nodes) (told answer) written joined dropped ⌝ }
 {
-    let answer = Answer::Refuse(refusal);
     let outcome = Outcome {
         answer: answer,
-        written: 0,
-        joined: 0,
-        dropped: 0,
-    };
-    Stepped {
-        coordinator: coordinator,
-        table: table,
-        outcome: outcome,
-    }
-}
-
-// A step after which the panel rests, with the position joined and the one dropped; nothing is written.
-pub fn resting(coordinator: Coordinator, table: Table, joined: usize, dropped: usize) -> Stepped
-    ensures { λ r. ⌜ shown r ≡ shows (resting coordinator (table .nodes) joined dropped) ⌝ }
-{
-    let answer = Answer::Rest;
-    let outcome = Outcome {
-        answer: answer,
-        written: 0,
+        written: written,
         joined: joined,
         dropped: dropped,
     };
@@ -73,4 +61,18 @@ pub fn resting(coordinator: Coordinator, table: Table, joined: usize, dropped: u
         table: table,
         outcome: outcome,
     }
+}
+
+// A step that refuses: all is as it was, and nothing is written.
+pub fn refusing(coordinator: Coordinator, table: Table, refusal: Refusal) -> Stepped
+    ensures { λ r. ⌜ shown r ≡ shows (refused coordinator (table .nodes) refusal) ⌝ }
+{
+    leaving(coordinator, table, Answer::Refuse(refusal), 0, 0, 0)
+}
+
+// A step after which the panel rests, with the position joined and the one dropped; nothing is written.
+pub fn resting(coordinator: Coordinator, table: Table, joined: usize, dropped: usize) -> Stepped
+    ensures { λ r. ⌜ shown r ≡ shows (resting coordinator (table .nodes) joined dropped) ⌝ }
+{
+    leaving(coordinator, table, Answer::Rest, 0, joined, dropped)
 }

@@ -29,7 +29,7 @@ use Rattle.coordinator.specs.declared.Phase.{Phase}
 use Rattle.coordinator.proofs.Phase as phase
 use Rattle.coordinator.specs.declared.Phase.the-variants.{Resting, Awaiting, ForwardDue, ReturnDue, Unknown}
 use Rattle.steps.specs.declared.Stepped.{Stepped}
-use Rattle.steps.specs.After.{After, Shown, shown, refused, waits, Leaves}
+use Rattle.steps.specs.After.{After, shown, leaving, refused, waits, Leaves}
 use Rattle.steps.specs.Turn.{Due, dueList, dueOffer, dueOwn, dueIn, owedTo, sent}
 use Rattle.turn.specs.Sending.{sending, shownOf}
 
@@ -42,12 +42,9 @@ module _ (d : Due) (c : Coordinator) (t : List Node) (r : Stepped) (before after
       told-as : (v : Writing) → toldWritten w ≡ toldWritten v → shown r ≡ shownOf v c t (d .coordinator) (d .nodes) (d .board) (d .exchange)
       told-as v h = e ∙ rw (same-written w v h, en, et) refl
 
-      counted : (n : ℕ) → Shown
-      counted n = record { coordinator = d .coordinator; nodes = d .nodes; says = waits (d .board) (d .exchange); written = n; joined = 0; dropped = 0 }
-
       go : (b : Bool) → toldWritten w ≡ choose b (refuses NoRoom) (gives ((12 + length (d .payload)) ∷ [])) → after ≡ laid (choose b [] (frameOf (d .header) (d .payload))) before → Leaves (choose b (refused c t NoRoom) (sent d)) r before after
       go true h l = (told-as (NotWritten NoRoom) h, l)
-      go false h l = (told-as (Written (12 + length (d .payload))) h ∙ ap counted (sym (long (d .header) (d .payload))), l)
+      go false h l = (told-as (Written (12 + length (d .payload))) h ∙ ap (λ (n : ℕ). leaving (d .coordinator) (d .nodes) (waits (d .board) (d .exchange)) n 0 0) (sym (long (d .header) (d .payload))), l)
 
 -- what is left of one step is left of an equal one, and so of one transmission
 pub leaves-due : (c : Coordinator) (t : List Node) (r : Stepped) (before after : List ℕ) {d e : Due} → d ≡ e → Leaves (sending e c t (length before)) r before after → Leaves (sending d c t (length before)) r before after

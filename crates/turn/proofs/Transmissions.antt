@@ -13,6 +13,7 @@ use Rattle.ground.proofs.Choices.{and-left}
 use Rattle.ground.proofs.Firsts.{FirstCase}
 use Rattle.refusal.specs.Refusal.{gives}
 use Rattle.refusal.proofs.Rules.{Passed, passed, gave, ruled-through}
+use Rattle.frame.specs.declared.Header.{Header}
 use Rattle.frame.specs.Frame.{fields, headerOf, lengthByte, reading, payloadOf, frameOf}
 use Rattle.frame.proofs.RoundTrip.{reads-back, reads-back-payload}
 use Rattle.board.specs.declared.Node.{Node}
@@ -22,7 +23,6 @@ use Rattle.board.specs.Wanted.{wantedAt, lowestOf, someListed, indexOf}
 use Rattle.board.specs.Round.{nextListed}
 use Rattle.board.proofs.LowestWanted.{lowest-case}
 use Rattle.board.proofs.NextListed.{next-nearest}
-use Rattle.setup.specs.declared.Setup.{Setup}
 use Rattle.setup.specs.Setup.{address}
 use Rattle.setup.specs.Fitness.{Position}
 use Rattle.setup.proofs.Apart.{address-from, address-upTo}
@@ -53,25 +53,23 @@ pub record Goes (c : Coordinator) (t : List Node) (board : ℕ) (bytes : List �
   pub source : headerOf bytes .source ≡ 255
   pub subnet : headerOf bytes .subnet ≡ c .setup .subnet
 
--- bytes that carry a message: its type, packet number, source node type, method, parameter 1 and payload, and this parameter 2 (01, "Forward and return")
-pub record Carries (m : Kept) (second : ℕ) (bytes : List ℕ) : Type 0 where
-  pub message : headerOf bytes .message ≡ m .message
-  pub packet : headerOf bytes .packet ≡ m .packet
-  pub kind : headerOf bytes .kind ≡ m .kind
-  pub method : headerOf bytes .method ≡ m .method
-  pub parameter1 : headerOf bytes .parameter1 ≡ m .parameter
-  pub parameter2 : headerOf bytes .parameter2 ≡ second
-  pub payload : payloadOf bytes ≡ take (m .length) (m .payload)
-
--- bytes of our own: node type 165, method 0, parameter 1 0, parameter 2 the board's index, with this type, packet number and payload (01, "Turn": "Own frames")
-pub record Own (t : List Node) (board message packet : ℕ) (payload : List ℕ) (bytes : List ℕ) : Type 0 where
-  pub method : headerOf bytes .method ≡ 0
-  pub parameter1 : headerOf bytes .parameter1 ≡ 0
-  pub parameter2 : headerOf bytes .parameter2 ≡ indexOf t board
-  pub kind : headerOf bytes .kind ≡ 165
+-- what bytes hold besides: node type, type, packet number, method, parameters 1 and 2, and the payload
+pub record Holds (kind message packet method parameter1 parameter2 : ℕ) (payload bytes : List ℕ) : Type 0 where
+  pub kindIs : headerOf bytes .kind ≡ kind
   pub messageIs : headerOf bytes .message ≡ message
   pub packetIs : headerOf bytes .packet ≡ packet
+  pub methodIs : headerOf bytes .method ≡ method
+  pub parameter1Is : headerOf bytes .parameter1 ≡ parameter1
+  pub parameter2Is : headerOf bytes .parameter2 ≡ parameter2
   pub payloadIs : payloadOf bytes ≡ payload
+
+-- bytes that carry a message: its source node type, type, packet number, method, parameter 1 and payload, and this parameter 2 (01, "Forward and return")
+abbrev pub Carries : Kept → ℕ → List ℕ → Type 0
+Carries m second bytes = Holds (m .kind) (m .message) (m .packet) (m .method) (m .parameter) second (take (m .length) (m .payload)) bytes
+
+-- bytes of our own: node type 165, method 0, parameter 1 0, parameter 2 the board's index, with this type, packet number and payload (01, "Turn": "Own frames")
+abbrev pub Own : List Node → ℕ → ℕ → ℕ → List ℕ → List ℕ → Type 0
+Own t board message packet payload bytes = Holds 165 message packet 0 0 (indexOf t board) payload bytes
 
 -- what the bytes to a board say in each exchange: an offer goes to the next after the last one offered, a list to the lowest owed;
 -- a forward carries what was kept with the index of the board that made the request, a return carries it with 0 (01, "Turn" and "Forward and return")
@@ -176,33 +174,10 @@ module _ (c : Coordinator) (t : List Node) where
         same : Wait (d .board) (d .exchange) ≡ Wait b e
         same = same-told (Wait (d .board) (d .exchange)) (Wait b e) (ap gives (given .1))
 
--- a carried message reads back as it was kept
-carried-back : (c : Coordinator) (t : List Node) (b : ℕ) (e : Exchange) (q second : ℕ) → length (take (c .kept .length) (c .kept .payload)) ≤ 240 → Carries (c .kept) second (frameOf (dueCarried c t b e q second .header) (dueCarried c t b e q second .payload))
-unfolding frameOf toBoard
-carried-back c t b e q second small =
-    record {
-      message = refl;
-      packet = refl;
-      kind = refl;
-      method = refl;
-      parameter1 = refl;
-      parameter2 = refl;
-      payload = reads-back-payload (dueCarried c t b e q second .header) (dueCarried c t b e q second .payload) small;
-    }
-
--- so does a message of our own
-own-back : (s : Setup) (t : List Node) (b message packet : ℕ) (p : List ℕ) → length p ≤ 240 → Own t b message packet p (frameOf (ownHeader s t b message packet) p)
-unfolding frameOf ownHeader
-own-back s t b message packet p small =
-    record {
-      method = refl;
-      parameter1 = refl;
-      parameter2 = refl;
-      kind = refl;
-      messageIs = refl;
-      packetIs = refl;
-      payloadIs = reads-back-payload (ownHeader s t b message packet) p small;
-    }
+-- a frame holds what its header says, and its payload
+holds-back : (h : Header) (p : List ℕ) → length p ≤ 240 → Holds (h .kind) (h .message) (h .packet) (h .method) (h .parameter1) (h .parameter2) p (frameOf h p)
+unfolding frameOf
+holds-back h p small = record { kindIs = refl; messageIs = refl; packetIs = refl; methodIs = refl; parameter1Is = refl; parameter2Is = refl; payloadIs = reads-back-payload h p small }
 
 module _ (c : Coordinator) (t : List Node) where
   -- the frame of what is due goes to its board
@@ -227,10 +202,11 @@ module _ (c : Coordinator) (t : List Node) where
 
   -- and says what its exchange asks
   says-due : {p : Phase} {d : Due} → phaseOf (c .stand) ≡ p → DueCase c t p d → length (d .payload) ≤ 240 → Says c t (d .exchange) (d .board) (frameOf (d .header) (d .payload))
-  says-due e (returning b) small = (e, carried-back c t b Return 0 0 small)
-  says-due e (forwarding b q) small = (q, e, carried-back c t b Forward q (indexOf t q) small)
-  says-due e (listing p l) small = (refl, own-back (c .setup) t (owedTo c t) 20 0 (nodeList (c .setup .internal) t) small)
-  says-due e (offering p) small = (refl, own-back (c .setup) t (nextListed t (c .setup .k) (c .last)) 0 128 (signed (c .setup) offerCode) small)
+  unfolding toBoard ownHeader
+  says-due e (returning b) small = (e, holds-back _ _ small)
+  says-due e (forwarding b q) small = (q, e, holds-back _ _ small)
+  says-due e (listing p l) small = (refl, holds-back _ _ small)
+  says-due e (offering p) small = (refl, holds-back _ _ small)
 
   module _ (room b : ℕ) (e : Exchange) (waiting : turnOf c t room .says ≡ waits b e) where
     k : Taken c t room b e

@@ -10,7 +10,7 @@ use Rattle.frame.specs.declared.Writing.the-variants.{Written, Refused as NotWr
 use Rattle.board.specs.declared.Node.{Node}
 use Rattle.coordinator.specs.declared.Coordinator.{Coordinator}
 use Rattle.coordinator.specs.declared.Exchange.{Exchange}
-use Rattle.steps.specs.After.{After, Shown, shows, refused, waits}
+use Rattle.steps.specs.After.{After, Shown, shows, leaving, refused, waits}
 use Rattle.steps.specs.Turn.{Due, sent}
 
 -- what is due is written and its board waited for, or refused 11 where there is no room for it (01, "Turn" and number 11)
@@ -19,5 +19,5 @@ sending d c t room = choose (ltb room (12 + length (d .payload))) (refused c t N
 
 -- what the caller is shown of a transmission, by what its writing gave: the wait with coordinator and records as they are then, or the refusal with both as they were
 abbrev pub shownOf : Writing → Coordinator → List Node → Coordinator → List Node → ℕ → Exchange → Shown
-shownOf (Written n) c t next nodes board exchange = record { coordinator = next; nodes = nodes; says = waits board exchange; written = n; joined = 0; dropped = 0 }
+shownOf (Written n) c t next nodes board exchange = leaving next nodes (waits board exchange) n 0 0
 shownOf (NotWritten q) c t next nodes board exchange = shows (refused c t q)

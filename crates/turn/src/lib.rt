@@ -10,7 +10,6 @@ use frame::Writing;
 use refusal::Refusal;
 use setup::Setup;
 use steps::Answer;
-use steps::Outcome;
 use steps::Stepped;
 ghost use mathlib.Core.Path.{_≡_};
 ghost use Prim.Native.Nat.{_≤_};
@@ -32,26 +31,21 @@ fn sent(
     coordinator: Coordinator,
     table: Table,
     next: Coordinator,
-    settled: Table,
+    records: Table,
     board: usize,
     exchange: Exchange,
 ) -> Stepped
-    ensures { λ r. ⌜ shown r ≡ shownOf writing coordinator (table .nodes) next (settled .nodes) board exchange ⌝ }
+    ensures { λ r. ⌜ shown r ≡ shownOf writing coordinator (table .nodes) next (records .nodes) board exchange ⌝ }
 {
     match writing {
-        Writing::Written(n) => {
-            let outcome = Outcome {
-                answer: Answer::Wait(board, exchange),
-                written: n,
-                joined: 0,
-                dropped: 0,
-            };
-            Stepped {
-                coordinator: next,
-                table: settled,
-                outcome: outcome,
-            }
-        }
+        Writing::Written(n) => steps::leaving(
+            next,
+            records,
+            Answer::Wait(board, exchange),
+            n,
+            0,
+            0,
+        ),
         Writing::Refused(refusal) => steps::refusing(coordinator, table, refusal),
     }
 }
@@ -147,13 +141,13 @@ fn send_list(coordinator: Coordinator, table: Table, board: usize, out: &mut [u8
 {
     let writing = message::write_list(coordinator.setup, table, board, out);
     let next = waiting(coordinator, board, Exchange::List, 0);
-    let settled = board::settle_at(table, board);
+    let unmarked = board::unmark_at(table, board);
     sent(
         writing,
         coordinator,
         table,
         next,
-        settled,
+        unmarked,
         board,
         Exchange::List,
     )

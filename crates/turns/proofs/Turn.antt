@@ -16,7 +16,7 @@ use Rattle.board.specs.declared.Node.{Node}
 use Rattle.board.specs.declared.Wanted.the-variants.{Listed, Owed}
 use Rattle.board.specs.Table.{at, put, listedAt}
 use Rattle.board.specs.Wanted.{wantedAt, countOf}
-use Rattle.board.specs.Change.{told as settled}
+use Rattle.board.specs.Change.{unmarked}
 use Rattle.board.specs.Round.{nextListed}
 use Rattle.board.proofs.LowestWanted.{lowest-case}
 use Rattle.board.proofs.Counts.{count-put}
@@ -46,12 +46,12 @@ module _ (c : Coordinator) (t : List Node) (h : fits c t ≡ true) where
     pub owed-board : Board c t (owedTo c t)
     owed-board = board-listed c t h (owedTo c t) (and-left (listedAt t (owedTo c t)) (eqb (at t (owedTo c t) .owed) 1) owed-there)
 
-    one-owed-less : countOf Owed (put t (owedTo c t) (settled (at t (owedTo c t)))) + 1 ≡ countOf Owed t
-    one-owed-less = omega (arith, count-put Owed t (owedTo c t) (settled (at t (owedTo c t))) (fits-forty c t h) (owed-board .from) (omega (arith, owed-board .upTo, owed-board .few)), ap one owed-there, ap one (not-right (listedAt t (owedTo c t)) (eqb 0 1) refl))
+    one-owed-less : countOf Owed (put t (owedTo c t) (unmarked (at t (owedTo c t)))) + 1 ≡ countOf Owed t
+    one-owed-less = omega (arith, count-put Owed t (owedTo c t) (unmarked (at t (owedTo c t))) (fits-forty c t h) (owed-board .from) (omega (arith, owed-board .upTo, owed-board .few)), ap one owed-there, ap one (not-right (listedAt t (owedTo c t)) (eqb 0 1) refl))
 
     list-moves : phaseOf (c .stand) ≡ Resting → Moves c t (sent (dueList c t (owedTo c t)))
     unfolding underWay
-    list-moves w = moved c t h (c .kept) (put t (owedTo c t) (settled (at t (owedTo c t)))) (waits (owedTo c t) Listing) _ (listing (owedTo c t)) (plain-list (owedTo c t)) (put-keeps c t h Listed (settled (at t (owedTo c t))) owed-board refl) (rw w (omega (arith, one-owed-less)))
+    list-moves w = moved c t h (c .kept) (put t (owedTo c t) (unmarked (at t (owedTo c t)))) (waits (owedTo c t) Listing) _ (listing (owedTo c t)) (plain-list (owedTo c t)) (put-keeps c t h Listed (unmarked (at t (owedTo c t))) owed-board refl) (rw w (omega (arith, one-owed-less)))
 
   own-moves : phaseOf (c .stand) ≡ Resting → (s : Bool) → ltb 0 (owedTo c t) ≡ s → Moves c t (sent (choose s (dueList c t (owedTo c t)) (dueOffer c t (nextListed t (c .setup .k) (c .last)))))
   unfolding choose

@@ -4,7 +4,7 @@ use borrow.Author.Needs.{needs}
 use Rattle.board.specs.Table.{put}
 use Rattle.board.specs.Change.{oweAll}
 use Rattle.setup.specs.Setup.{toldOf}
-use Rattle.steps.specs.After.{shows, rests}
+use Rattle.steps.specs.After.{shows, resting}
 use Rattle.join.proofs.Verdict.{join-taken, join-refused}
 use Rattle.join.proofs.join.Statement.{statement}
 use Rattle.join.proofs.join.Tie as tie
@@ -36,6 +36,9 @@ put-at-requires c κs = search needs
 owe-all-requires : tie.Need-owe-all-requires
 owe-all-requires c κs = search needs
 
+resting-requires : tie.Need-resting-requires
+resting-requires c κs = search needs
+
 returns : tie.Need-returns
 returns c =
     c .refusing .ensures ∙
@@ -43,15 +46,14 @@ returns c =
 
 returns-2 : tie.Need-returns-2
 returns-2 c =
-    (λ i. record {
-      coordinator = c .before .before .holding .ensures i;
-      nodes = (c .owe-all .ensures ∙ ap oweAll (c .before .put-at .ensures ∙ (λ j. put (c .before .before .before .before .before .before .before .before .before .args .table .nodes) (c .before .before .before .before .chosen .ensures j) (c .before .before .before .joining .ensures j)))) i;
-      says = rests;
-      written = 0;
-      joined = c .before .before .before .before .chosen .ensures i;
-      dropped = 0;
-    }) ∙
-    sym (ap shows (join-taken (c .before .before .before .before .before .before .before .before .before .args .coordinator) (c .before .before .before .before .before .before .before .before .before .args .table .nodes) (c .before .before .before .before .before .before .before .before .before .args .kind) (c .before .before .before .before .before .before .before .before .before .args .mac) (c .before .before .before .before .before .before .before .before .before .args .session) (sym (ap toldOf (c .before .before .before .before .before .before .enum-told .given .1)) ∙ c .before .before .before .before .before .before .before .before .judge-join .ensures)))
+    let args = c .before .before .before .before .before .before .before .before .before .before .args in
+    c .resting .ensures ∙
+    (λ i. shows (resting
+    (c .before .before .before .holding .ensures i)
+    ((c .before .owe-all .ensures ∙ ap oweAll (c .before .before .put-at .ensures ∙ (λ j. put (args .table .nodes) (c .before .before .before .before .before .chosen .ensures j) (c .before .before .before .before .joining .ensures j)))) i)
+    (c .before .before .before .before .before .chosen .ensures i)
+    0)) ∙
+    sym (ap shows (join-taken (args .coordinator) (args .table .nodes) (args .kind) (args .mac) (args .session) (sym (ap toldOf (c .before .before .before .before .before .before .before .enum-told .given .1)) ∙ c .before .before .before .before .before .before .before .before .before .judge-join .ensures)))
 
 pub join-spec : {M : Type 1} → statement M
 join-spec =
@@ -66,5 +68,6 @@ join-spec =
     holding-requires
     put-at-requires
     owe-all-requires
+    resting-requires
     returns
     returns-2)

@@ -12,22 +12,22 @@ enum-told c = search needs
 with-phase-requires : tie.Need-with-phase-requires
 with-phase-requires c κs = search needs
 
-accepting-requires : tie.Need-accepting-requires
-accepting-requires c κs = search needs
+leaving-requires : tie.Need-leaving-requires
+leaving-requires c κs = search needs
 
 with-phase-requires-2 : tie.Need-with-phase-requires-2
 with-phase-requires-2 c κs = search needs
 
-accepting-requires-2 : tie.Need-accepting-requires-2
-accepting-requires-2 c κs = search needs
+resting-requires : tie.Need-resting-requires
+resting-requires c κs = search needs
 
 returns : tie.Need-returns
-returns c = rw (c .before .before .enum-told .given .1) (c .accepting .ensures ∙ rw (c .before .with-phase .ensures, c .before .before .enum-told .given .1) refl)
+returns c = rw (c .before .before .enum-told .given .1) (c .leaving .ensures ∙ rw (c .before .with-phase .ensures, c .before .before .enum-told .given .1) refl)
 
 returns-2 : tie.Need-returns-2
 returns-2 c =
     let args = c .before .before .before .args in
-    rw (c .before .with-phase2 .ensures) at (c .accepting2 .ensures) ∙ sym (ap shows (acked-ends (args .exchange) (args .board) (args .requester) (args .coordinator) (args .table .nodes) (c .before .before .match .keys2)))
+    rw (c .before .with-phase2 .ensures) at (c .resting .ensures) ∙ sym (ap shows (acked-ends (args .exchange) (args .board) (args .requester) (args .coordinator) (args .table .nodes) (c .before .before .match .keys2)))
 
 pub acked-spec : {M : Type 1} → statement M
 acked-spec =
@@ -35,8 +35,8 @@ acked-spec =
     (tie.spec
     enum-told
     with-phase-requires
-    accepting-requires
+    leaving-requires
     with-phase-requires-2
-    accepting-requires-2
+    resting-requires
     returns
     returns-2)

@@ -16,8 +16,8 @@ enum-known-n c = search needs
 hear-requires : tie.Need-hear-requires
 hear-requires c κs = search needs
 
-accepting-requires : tie.Need-accepting-requires
-accepting-requires c κs = search needs
+leaving-requires : tie.Need-leaving-requires
+leaving-requires c κs = search needs
 
 enum-known-refusal : tie.Need-enum-known-refusal
 enum-known-refusal c = search needs
@@ -31,7 +31,7 @@ same-length c = search needs
 returns : tie.Need-returns
 returns c =
     let args = c .before .before .before .before .before .before .before .before .before .before .args in
-    leaves-acked (args .coordinator) (args .table .nodes) (args .board) (told (args .answer)) (args .after) (c .accepting .result) (now (args .out)) _ (c .before .before .before .before .before .before .before .write-signed .result) (c .before .before .before .before .before .before .before .write-signed .ensures) (rw (c .before .before .before .n .given .1) (c .accepting .ensures ∙ rw (c .before .hear .ensures) refl))
+    leaves-acked (args .coordinator) (args .table .nodes) (args .board) (told (args .answer)) (args .after) (c .leaving .result) (now (args .out)) _ (c .before .before .before .before .before .before .before .write-signed .result) (c .before .before .before .before .before .before .before .write-signed .ensures) (rw (c .before .before .before .n .given .1) (c .leaving .ensures ∙ rw (c .before .hear .ensures) refl))
 
 same-length-2 : tie.Need-same-length-2
 same-length-2 c = search needs
@@ -48,7 +48,7 @@ acking-spec =
     write-signed-requires
     enum-known-n
     hear-requires
-    accepting-requires
+    leaving-requires
     enum-known-refusal
     refusing-requires
     same-length

@@ -13,8 +13,8 @@ write-list-requires c κs = search needs
 waiting-requires : tie.Need-waiting-requires
 waiting-requires c κs = search needs
 
-settle-at-requires : tie.Need-settle-at-requires
-settle-at-requires c κs = search needs
+unmark-at-requires : tie.Need-unmark-at-requires
+unmark-at-requires c κs = search needs
 
 sent-requires : tie.Need-sent-requires
 sent-requires c κs = search needs
@@ -25,7 +25,7 @@ same-length c = search needs
 returns : tie.Need-returns
 returns c =
     let args = c .before .before .before .before .before .before .before .before .args in
-    leaves-sent (dueList (args .coordinator) (args .table .nodes) (args .board)) (args .coordinator) (args .table .nodes) (c .sent .result) (now (args .out)) _ (list-small (args .coordinator .setup .internal) (args .table .nodes)) (c .before .before .before .before .before .write-list .result) (c .before .before .before .before .before .write-list .ensures) (c .before .before .waiting .ensures) (c .before .settle-at .ensures) (c .sent .ensures)
+    leaves-sent (dueList (args .coordinator) (args .table .nodes) (args .board)) (args .coordinator) (args .table .nodes) (c .sent .result) (now (args .out)) _ (list-small (args .coordinator .setup .internal) (args .table .nodes)) (c .before .before .before .before .before .write-list .result) (c .before .before .before .before .before .write-list .ensures) (c .before .before .waiting .ensures) (c .before .unmark-at .ensures) (c .sent .ensures)
 
 pub send-list-spec : {M : Type 1} → statement M
 send-list-spec =
@@ -33,7 +33,7 @@ send-list-spec =
     (tie.spec
     write-list-requires
     waiting-requires
-    settle-at-requires
+    unmark-at-requires
     sent-requires
     same-length
     returns)

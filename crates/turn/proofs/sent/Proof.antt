@@ -1,11 +1,13 @@
 -- `turn::sent` meets its contract, by what the writing gave.
-use mathlib.Core.Path.{refl}
 use borrow.Author.Needs.{needs}
 use Rattle.turn.proofs.sent.Statement.{statement}
 use Rattle.turn.proofs.sent.Tie as tie
 
 enum-known-writing : tie.Need-enum-known-writing
 enum-known-writing c = search needs
+
+leaving-requires : tie.Need-leaving-requires
+leaving-requires c κs = search needs
 
 enum-known-writing-2 : tie.Need-enum-known-writing-2
 enum-known-writing-2 c = search needs
@@ -14,7 +16,7 @@ refusing-requires : tie.Need-refusing-requires
 refusing-requires c κs = search needs
 
 returns : tie.Need-returns
-returns c = rw (c .before .writing .given .1) refl
+returns c = rw (c .before .before .writing .given .1) (c .leaving .ensures)
 
 returns-2 : tie.Need-returns-2
 returns-2 c = rw (c .before .before .writing2 .given .1) (c .refusing .ensures)
@@ -22,4 +24,4 @@ returns-2 c = rw (c .before .before .writing2 .given .1) (c .refusing .ensures)
 pub sent-spec : {M : Type 1} → statement M
 sent-spec =
     tie.close
-    (tie.spec enum-known-writing enum-known-writing-2 refusing-requires returns returns-2)
+    (tie.spec enum-known-writing leaving-requires enum-known-writing-2 refusing-requires returns returns-2)

@@ -1,8 +1,8 @@
--- `lent::mark_at` meets its contract: the record that was there is put back, owed the list.
+-- `board::mark_at` meets its contract: the record that was there is put back, owed the list.
 use mathlib.Core.Path.{refl, _∙_}
 use borrow.Author.Needs.{needs}
-use Rattle.lent.proofs.mark_at.Statement.{statement}
-use Rattle.lent.proofs.mark_at.Tie as tie
+use Rattle.board.proofs.mark_at.Statement.{statement}
+use Rattle.board.proofs.mark_at.Tie as tie
 
 record-at-requires : tie.Need-record-at-requires
 record-at-requires c κs = search needs
