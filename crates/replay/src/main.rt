@@ -50,7 +50,7 @@ fn set_up(
 ) -> World {
     let c = world.coordinator;
     let t = world.table;
-    let stepped = start::start(c, t, addresses, subnet, internal, mac, session);
+    let stepped = panel::lend_setup(c, t, addresses, subnet, internal, mac, session);
     let outcome = stepped.outcome;
     answer::started(outcome, addresses.len());
     left(stepped)
@@ -60,7 +60,7 @@ fn set_up(
 fn step_with(event: Event, received: &[u8], out: &mut [u8], world: World) -> World {
     let c = world.coordinator;
     let t = world.table;
-    let stepped = stepping::step(c, t, event, received, out);
+    let stepped = panel::lend_step(c, t, event, received, out);
     let outcome = stepped.outcome;
     let written = words::within(outcome.written, out);
     answer::stepped(outcome, &out[..written]);

@@ -1,0 +1,28 @@
+-- `lent::counted_amend` meets its contract: one of forty records is changed, any other count is refused.
+use Prim.Native.Nat.{ℕ}
+use mathlib.Core.Path.{ap}
+use borrow.Author.Tests.{eq-eqb, ne-eqb}
+use Rattle.ground.proofs.Choices.{choose-yes, choose-no}
+use Rattle.lent.specs.Amend.{amends}
+use borrow.Author.Needs.{needs}
+use Rattle.lent.proofs.counted_amend.Statement.{statement}
+use Rattle.lent.proofs.counted_amend.Tie as tie
+
+plainly-requires : tie.Need-plainly-requires
+plainly-requires c κs = search needs
+
+returns : tie.Need-returns
+returns c = choose-no _ _ _ _ (ne-eqb _ 40 (c .before .if1 .taken)) (ap (λ (n : ℕ). amends n (c .before .before .args .table .nodes)) (c .plainly .ensures))
+
+amend-at-requires : tie.Need-amend-at-requires
+amend-at-requires c κs = search needs
+
+plainly-requires-2 : tie.Need-plainly-requires-2
+plainly-requires-2 c κs = search needs
+
+returns-2 : tie.Need-returns-2
+returns-2 c = choose-yes _ _ _ _ (eq-eqb _ 40 (c .before .before .if1 .left)) (λ i. amends (c .plainly2 .ensures i) (c .before .amend-at .ensures i))
+
+pub counted-amend-spec : {M : Type 1} → statement M
+counted-amend-spec =
+    tie.close (tie.spec plainly-requires returns amend-at-requires plainly-requires-2 returns-2)

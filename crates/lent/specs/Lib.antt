@@ -1,0 +1,3 @@
+pub mod Lent
+pub mod Numbers
+pub mod Amend

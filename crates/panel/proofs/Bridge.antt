@@ -1,0 +1,53 @@
+-- From the lent forms to the rest: a lent step is the by-value step, and a series of lent steps is a series of the panel of demand 3. So every theorem
+-- about that panel (crates lasting, staying, turns) holds of the coordinator and the records that a host lends, with no second proof.
+use Prim.Native.Nat.{ℕ}
+use mathlib.Core.Path.{_≡_, refl, sym, ap, _∙_}
+use mathlib.Core.List.{List, [], _∷_}
+use lib.ListN.{length}
+use denote.Ref.{RefT, now}
+use Rattle.board.specs.declared.Node.{Node}
+use Rattle.coordinator.specs.declared.Coordinator.{Coordinator}
+use Rattle.steps.specs.declared.Outcome.{Outcome}
+use Rattle.steps.specs.declared.Stepped.{Stepped}
+use Rattle.steps.specs.After.{Shown, shows}
+use Rattle.series.specs.Series.{Input, World, left, after}
+use Rattle.series.specs.Ours.{ours}
+use Rattle.lent.specs.Lent.{inPlace}
+use Rattle.lent.proofs.InPlace.{same-in-place}
+use Rattle.stepping.proofs.step.Reads as by-value
+use Rattle.panel.proofs.Unique.{Steps, output, Says}
+
+-- a lent step answers, and leaves in coordinator, records and output, what the step by value gives on the same coordinator, records and output
+pub is-by-value : (κs : _) (a s : Steps) (r : Outcome) (q : Stepped) (t : _)
+    → Says a r s → by-value.Post κs (now (a .0), (record { nodes = now (a .1 .0) }, a .1 .1)) q t
+    → ((r ≡ q .outcome) × ((now (s .0) ≡ q .coordinator) × (now (s .1 .0) ≡ q .table .nodes))) × (output s ≡ now (t .1 .1 .1 .1 .0))
+is-by-value κs a s r q t p p′ = (same-in-place r (q .outcome) _ (q .coordinator) _ (q .table .nodes) (p .0 ∙ sym (p′ .0)), p .1 ∙ sym (p′ .1))
+
+-- what a host lends to a step: its coordinator and its records, and the event with the received bytes and the room
+abbrev world : Steps → World
+world a = record { coordinator = now (a .0); nodes = now (a .1 .0) }
+
+abbrev input : Steps → Input
+input a = record { event = a .1 .1 .0; received = now (a .1 .1 .1 .0); room = length (output a) }
+
+-- one lent step on a world leaves another, with an answer
+abbrev Stepping : World → Input → Outcome → World → Type 0
+Stepping w i r v = inPlace r (v .coordinator) (v .nodes) ≡ shows (ours .step w i)
+
+pub is-stepping : (a s : Steps) (r : Outcome) → Says a r s → Stepping (world a) (input a) r (world s)
+is-stepping a s r p = p .0
+
+-- and so it leaves the world that the panel of demand 3 leaves
+stepping-left : (w v : World) (i : Input) (r : Outcome) → Stepping w i r v → v ≡ left (ours .step w i)
+stepping-left w v i r e = λ j. record { coordinator = e j .coordinator; nodes = e j .nodes }
+
+-- a series of lent steps, each on what the one before it left
+pub data Played : World → List Input → World → Type 0 where
+  played-none : (w : World) → Played w [] w
+  played-more : (w v x : World) (i : Input) (is : List Input) (r : Outcome) → Stepping w i r v → Played v is x → Played w (i ∷ is) x
+
+-- a series of lent steps leaves what demand 3's series leaves
+pub series-in-place : (w x : World) (is : List Input) → Played w is x → x ≡ after ours w is
+unfolding after
+series-in-place w x [] (played-none v) = refl
+series-in-place w x (i ∷ is) (played-more u v y j js r e p) = series-in-place v x is p ∙ ap (λ (z : World). after ours z is) (stepping-left w v i r e)

@@ -1,0 +1,197 @@
+/*
+ * Measures the stack that one call takes: its arguments and return address there, and all below. Each call runs on a
+ * stack of its own, an array painted with a pattern, and afterwards the lowest byte that is no longer the pattern tells
+ * how deep it went. A call that does nothing is measured first and taken off. x86-64, as the archive is.
+ *
+ * The steps are those of a full table, forty boards, with the longest payloads that a frame can carry: accepted and
+ * refused joins, lists, offers, requests by each method with their forwards and returns, misses, drops.
+ */
+#include "nadrelgos.h"
+#include "wire.h"
+
+#include <stdio.h>
+#include <string.h>
+
+enum { STACK = 256 * 1024, PATTERN = 0xA5, SUBNET = 3, LONGEST = 240, FIRST_ADDRESS = 16 };
+
+/* the node types of the boards in turn: a thermostat, a furnace, an air handler, an air conditioner */
+enum { KINDS = 4, FURNACE = 2 };
+
+static struct nadrelgos_coordinator coordinator;
+static struct nadrelgos_node nodes[NADRELGOS_NODES];
+static uint8_t pool[NADRELGOS_NODES];
+static uint8_t out[NADRELGOS_ROOM];
+static uint8_t received[WIRE_MOST];
+static size_t received_count;
+
+/* ---- a call on a painted stack */
+
+static _Alignas(64) uint8_t stack[STACK];
+
+/* what is called: a step by its event's number, or one of these */
+enum { SETUP = 0, AMEND = 5, CALLS = 6, NOTHING = 255 };
+
+struct call {
+    uint8_t event;
+    uint8_t kind;
+    uint64_t mac;
+    uint64_t answer;
+};
+
+static void make(struct call *call) {
+    switch (call->event) {
+    case NOTHING: break;
+    case SETUP:
+        call->answer = nadrelgos_setup(&coordinator, nodes, NADRELGOS_NODES, pool, sizeof pool, SUBNET, 21, 9, 1);
+        break;
+    case AMEND:
+        call->answer = nadrelgos_amend(nodes, NADRELGOS_NODES, NADRELGOS_CHANGE_MARK, NADRELGOS_NODES, 0, 0, 0);
+        break;
+    default:
+        call->answer = nadrelgos_step(&coordinator, nodes, NADRELGOS_NODES, call->event, call->kind, call->mac, 1,
+                                      received, received_count, out, sizeof out);
+    }
+}
+
+/* Calls make(call) with the stack pointer at the end of the array, and says how many of its bytes were written. */
+static size_t depth(struct call *call) {
+    void (*function)(struct call *) = make;
+    uint8_t *top = stack + sizeof stack;
+    size_t untouched = 0;
+    memset(stack, PATTERN, sizeof stack);
+    __asm__ volatile("movq %%rsp, %%rbx\n\t"
+                     "movq %[top], %%rsp\n\t"
+                     "callq *%[function]\n\t"
+                     "movq %%rbx, %%rsp"
+                     : "+D"(call)
+                     : [top] "r"(top), [function] "r"(function)
+                     : "rax", "rbx", "rcx", "rdx", "rsi", "r8", "r9", "r10", "r11", "xmm0", "xmm1", "xmm2", "xmm3",
+                       "xmm4", "xmm5", "xmm6", "xmm7", "xmm8", "xmm9", "xmm10", "xmm11", "xmm12", "xmm13", "xmm14",
+                       "xmm15", "memory", "cc");
+    while (untouched < sizeof stack && stack[untouched] == PATTERN) untouched++;
+    return sizeof stack - untouched;
+}
+
+/* ---- the deepest call of each kind */
+
+static size_t nothing, deepest[CALLS];
+static unsigned calls, refused;
+static bool astray; /* something came out otherwise than this program means it to */
+
+static uint64_t measure(uint8_t event, uint8_t kind, uint64_t mac) {
+    struct call call = {event, kind, mac, 0};
+    size_t bytes = depth(&call) - nothing;
+    if (bytes > deepest[event]) deepest[event] = bytes;
+    calls++;
+    if (nadrelgos_refusal(call.answer)) refused++;
+    return call.answer;
+}
+
+/* ---- the boards: MAC p at position p, session 1 */
+
+static struct sender sender_at(unsigned p) {
+    struct sender sender = {0, SUBNET, 0};
+    if (p == 0) {
+        astray = true;
+        return sender;
+    }
+    sender.address = coordinator.setup.pool[p - 1];
+    sender.kind = nodes[p - 1].kind;
+    return sender;
+}
+
+static uint64_t acks(unsigned p) {
+    received_count = wire_ack(received, sender_at(p), p, 1);
+    return measure(NADRELGOS_EVENT_FRAME, 0, 0);
+}
+
+static uint64_t says(unsigned p, uint8_t type, uint8_t method, uint8_t parameter, const uint8_t *payload,
+                     size_t count) {
+    received_count = wire_frame(received, sender_at(p), type, 0, method, parameter, payload, count);
+    return measure(NADRELGOS_EVENT_FRAME, 0, 0);
+}
+
+/* A turn, and the board's answer: the list for a list, and an ACK for all else. */
+static void one_turn(void) {
+    uint64_t answer = measure(NADRELGOS_EVENT_TURN, 0, 0);
+    unsigned p = nadrelgos_board(answer);
+    if (p == 0) return;
+    if (nadrelgos_exchange(answer) == NADRELGOS_LIST)
+        says(p, TYPE_LIST + TYPE_RESPONSE, 0, 0, out + AT_PAYLOAD, out[AT_LENGTH]);
+    else
+        acks(p);
+}
+
+/* The lists that are owed, forty at most, then one offer. */
+static void until_offered(void) {
+    size_t last = coordinator.last;
+    for (unsigned i = 0; i <= NADRELGOS_NODES; i++) {
+        one_turn();
+        if (coordinator.last != last) return;
+    }
+    astray = true;
+}
+
+/* A request with the longest payload, by each method; the board that it is for answers, or is silent. */
+static void carry(uint8_t method, uint8_t parameter, bool acknowledges, bool answers) {
+    uint8_t payload[LONGEST];
+    memset(payload, 0x5A, sizeof payload);
+    unsigned p = nadrelgos_board(measure(NADRELGOS_EVENT_TURN, 0, 0));
+    says(p, TYPE_CONTROL, method, parameter, payload, sizeof payload);
+    if (method == 0) return;
+    uint64_t forward = measure(NADRELGOS_EVENT_TURN, 0, 0);
+    unsigned to = nadrelgos_board(forward);
+    if (nadrelgos_exchange(forward) != NADRELGOS_FORWARD || nadrelgos_written(forward) != NADRELGOS_ROOM) astray = true;
+    if (acknowledges) acks(to);
+    if (answers) {
+        says(to, TYPE_CONTROL + TYPE_RESPONSE, method, parameter, payload, sizeof payload);
+        one_turn(); /* the return */
+    } else {
+        measure(NADRELGOS_EVENT_QUIET, 0, 0);
+    }
+}
+
+int main(void) {
+    struct call empty = {NOTHING, 0, 0, 0};
+    nothing = depth(&empty);
+
+    for (unsigned i = 0; i < sizeof pool; i++) pool[i] = (uint8_t)(FIRST_ADDRESS + i);
+    measure(SETUP, 0, 0);
+    for (unsigned p = 1; p <= NADRELGOS_NODES; p++) {
+        if (nadrelgos_joined(measure(NADRELGOS_EVENT_JOIN, (uint8_t)(1 + p % KINDS), p)) != p) astray = true;
+        measure(NADRELGOS_EVENT_JOIN, 1, 99); /* busy */
+        until_offered();
+    }
+    measure(NADRELGOS_EVENT_JOIN, 1, 99);              /* full */
+    measure(NADRELGOS_EVENT_JOIN, 1, NADRELGOS_NODES); /* a board that comes back */
+    until_offered();
+
+    carry(0, 0, false, false);
+    carry(1, 102, true, true); /* fan, heat */
+    carry(1, 100, false, true);
+    carry(2, FURNACE, true, false);
+    carry(3, NADRELGOS_NODES, false, true);
+
+    received_count = wire_ack(received, sender_at(1), 1, 1); /* no wait is on, then damaged bytes */
+    measure(NADRELGOS_EVENT_FRAME, 0, 0);
+    received[AT_PAYLOAD] ^= 1;
+    measure(NADRELGOS_EVENT_FRAME, 0, 0);
+
+    for (unsigned i = 0; i < 3 * NADRELGOS_NODES * NADRELGOS_NODES && nodes[0].kind != 0; i++) {
+        measure(NADRELGOS_EVENT_TURN, 0, 0); /* nobody answers any more, until the first is dropped */
+        measure(NADRELGOS_EVENT_QUIET, 0, 0);
+    }
+    if (nodes[0].kind != 0) astray = true;
+    measure(AMEND, 0, 0);
+    if (astray) {
+        printf("stack: the panel did not do what this program means to measure\n");
+        return 1;
+    }
+
+    printf("stack of one call, in bytes, over %u calls on a full table (%u refused):\n", calls, refused);
+    printf("  setup %u, join %u, turn %u, frame %u, quiet %u, amend %u\n", (unsigned)deepest[SETUP],
+           (unsigned)deepest[NADRELGOS_EVENT_JOIN], (unsigned)deepest[NADRELGOS_EVENT_TURN],
+           (unsigned)deepest[NADRELGOS_EVENT_FRAME], (unsigned)deepest[NADRELGOS_EVENT_QUIET],
+           (unsigned)deepest[AMEND]);
+    return 0;
+}

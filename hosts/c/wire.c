@@ -1,0 +1,43 @@
+#include "wire.h"
+
+#include <string.h>
+
+/* The two sums over bytes. */
+static void sums_over(const uint8_t *bytes, size_t count, unsigned *first, unsigned *second) {
+    *first = 170;
+    *second = 0;
+    for (size_t i = 0; i < count; i++) {
+        *first = (*first + bytes[i]) % 255;
+        *second = (*second + *first) % 255;
+    }
+}
+
+size_t wire_frame(uint8_t *frame, struct sender from, uint8_t type, uint8_t packet, uint8_t method, uint8_t parameter,
+                  const uint8_t *payload, size_t count) {
+    const uint8_t head[AT_PAYLOAD] = {WIRE_PANEL, from.address, from.subnet, method, parameter,
+                                      0,          from.kind,    type,        packet, (uint8_t)count};
+    size_t end = AT_PAYLOAD + count;
+    unsigned first, second;
+    memcpy(frame, head, sizeof head);
+    memcpy(frame + AT_PAYLOAD, payload, count);
+    sums_over(frame, end, &first, &second);
+    frame[end] = (uint8_t)(255 - (first + second) % 255);
+    frame[end + 1] = (uint8_t)(255 - (first + frame[end]) % 255);
+    return WIRE_AROUND + count;
+}
+
+size_t wire_ack(uint8_t *frame, struct sender from, uint64_t mac, uint64_t session) {
+    uint8_t payload[R2R_LENGTH] = {CODE_ACK};
+    for (unsigned i = 0; i < 8; i++) {
+        payload[1 + i] = (uint8_t)(mac >> 8 * i);
+        payload[9 + i] = (uint8_t)(session >> 8 * i);
+    }
+    return wire_frame(frame, from, TYPE_R2R, DATAFLOW, 0, 0, payload, sizeof payload);
+}
+
+bool wire_good(const uint8_t *frame, size_t count) {
+    unsigned first, second;
+    if (count < WIRE_AROUND || count != WIRE_AROUND + (size_t)frame[AT_LENGTH]) return false;
+    sums_over(frame, count, &first, &second);
+    return first == 0 && second == 0;
+}

@@ -1,0 +1,383 @@
+/*
+ * Nadrelgos: the coordinator of a ClimateTalk CT-485 bus, for firmware in C (C11) or C++ (C++11).
+ *
+ * The archive libpanel.a, which `rt staticlib panel` proves and writes, has nadrelgos_setup, nadrelgos_step and, for
+ * tools, nadrelgos_amend. They are written in Rattle and proved to do what the definitions under crates/ say, for every
+ * input; docs/PROMISES.md leads from each rule to its definition, its theorem and its code. This header is not proved:
+ * it restates those definitions for whoever writes the firmware. The archive is for x86-64; the assertions at the end
+ * stop a build whose records would be laid out otherwise. Of C's library it needs memcpy; a call takes up to some 32
+ * kilobytes of stack, which `hosts/c/run stack` measures.
+ *
+ * WHO OWNS WHAT
+ *   The host owns all memory: one coordinator record, forty node records, and the buffers. Nothing is allocated and
+ *   nothing is kept between calls but what stands in the two lent things, so that a second panel is a second pair of
+ *   them. No call may run while another one on the same pair has not returned.
+ *   What the host owes, and no test can see:
+ *     - each pointer is good for its count and aligned for its type, and is not null even where the count is 0;
+ *     - records and buffers have been written before, if only with zeros;
+ *     - no two things lent to one call overlap.
+ *
+ * BEFORE SETUP
+ *   Zero both records (static storage is zeroed already), then call nadrelgos_setup. Setup looks at nothing that the
+ *   records hold and, where it is accepted, writes every field of them, so that it would take any other contents as
+ *   well. The zeros are for the steps: each first tests whether coordinator and table are fit, and refuses 22 where
+ *   they are not. Zeros are never fit, so that a step before setup is refused for certain; other contents might be
+ *   fit by accident, and the step would act on them.
+ *
+ * WHAT A REFUSAL MEANS
+ *   Nothing was changed: no node record, no field of the coordinator, no byte of out. A wait that was on is still on.
+ *   The call can be made again, at once or later. `enum nadrelgos_refusal_number` has what to do next for each number.
+ *
+ * THE CALLS
+ *   After setup the firmware goes round, for ever:
+ *     1. Where a board wants to join, call nadrelgos_join. Refused 14 or 15: keep the join and try again after a
+ *        later step.
+ *     2. Call nadrelgos_turn. The answer is NADRELGOS_WAIT: send what was written, and start the reply timer.
+ *        (Refused 19: nobody is listed. Go back to 1.)
+ *     3. For each frame that comes in call nadrelgos_frame, until the wait is over:
+ *          NADRELGOS_REST      it was an ACK that ends the wait. Nothing to send.
+ *          NADRELGOS_TRANSMIT  it was taken. Send the ACK that was written; the wait is over.
+ *          NADRELGOS_DELIVER   it was a request for the host. Send the ACK that was written, then see to the request:
+ *                              type received[7], payload received + 10, received[9] bytes long. The wait is over.
+ *          NADRELGOS_WAIT      a forwarded request was acknowledged and its response is still to come. Nothing to
+ *                              send: start the timer again and go on listening.
+ *          refused 1 to 9      it was not taken. The wait goes on, and so does the timer.
+ *     4. Where the reply timer has run out and the wait is still on, call nadrelgos_quiet. The answer is
+ *        NADRELGOS_REST; where the board missed its third message in a row it names the board dropped.
+ *   The host's own part is the wire: when a frame begins and ends, how long a reply may take, the pauses between
+ *   frames, and the exchange by which a board joins. A join is told to the panel as a finished fact.
+ *
+ * READING THE RECORDS
+ *   Between calls the host may read every field, as for its screen: the table is the list of who is there. It must not
+ *   write them. A step tests fit and answers 22 where what it finds breaks a rule, but a changed record can be fit,
+ *   and then the step goes by it: who stays on the list, the turns and the rest of demand 3 are promised of records
+ *   that only setup and the steps have written. Bytes between the fields have no meaning: compare by fields.
+ */
+#ifndef NADRELGOS_H
+#define NADRELGOS_H
+
+#include <stddef.h>
+#include <stdint.h>
+
+#ifdef __cplusplus
+extern "C" {
+#endif
+
+/* The node records to lend: forty, whatever the number of addresses. */
+#define NADRELGOS_NODES 40
+
+/* The longest frame: 10 bytes before the payload, 240 of payload, 2 check bytes. This room always suffices for out. */
+#define NADRELGOS_ROOM 252
+
+/* A MAC is a number from 1 to this one, 2^56 - 1. On the wire MAC and session go low byte first. */
+#define NADRELGOS_MAC_MAX UINT64_C(0x00FFFFFFFFFFFFFF)
+
+/*
+ * What the panel knows of the board at one position. Position p, from 1 on, is nodes[p - 1], and its address is
+ * coordinator->setup.pool[p - 1]. A free position's record is all zeros.
+ */
+struct nadrelgos_node {
+    uint8_t kind;     /* node type; 0 where the position is free, never 165 */
+    uint64_t mac;     /* 1 to NADRELGOS_MAC_MAX, no two boards' alike */
+    uint64_t session; /* as the board last gave it, in a join or an ACK */
+    uint8_t misses;   /* messages in a row that it left unanswered since it joined or was last heard: 0 to 2 */
+    uint8_t owed;     /* 1 where the node list is still to be sent to it, else 0 */
+};
+
+/* What setup was told. */
+struct nadrelgos_settings {
+    uint8_t pool[40]; /* the addresses, rising; zeros past the first k */
+    size_t k;         /* how many there are: positions are 1 to k */
+    uint8_t subnet;   /* the subnet byte of every frame that the panel writes */
+    uint8_t internal; /* byte 0 of the node list: the type of the virtual internal subordinate */
+    uint64_t mac;     /* the panel's own MAC and session, in its offers and ACKs */
+    uint64_t session;
+};
+
+/* What the panel is about, and the positions that it names. */
+struct nadrelgos_stand {
+    /* 0 nothing; a wait for the answer to 1 an offer, 2 a list, 3 a forward, 4 a forward whose ACK has come,
+       5 a return; to be sent at the next turn: 6 a forward, 7 a return */
+    uint8_t stage;
+    size_t board;     /* stages 1 to 7: the board awaited, or the one it goes to */
+    size_t requester; /* stages 3, 4 and 6: the board that made the request */
+};
+
+/* The message that is carried: a request until its response comes, then the response; afterwards what it last was. */
+struct nadrelgos_kept {
+    uint8_t message;      /* message type */
+    uint8_t packet;       /* packet number */
+    uint8_t kind;         /* source node type */
+    uint8_t method;       /* send method */
+    uint8_t parameter;    /* send parameter 1 */
+    size_t length;        /* of the payload, at most 240 */
+    uint8_t payload[240]; /* zeros past its length */
+};
+
+/* The coordinator's record. */
+struct nadrelgos_coordinator {
+    struct nadrelgos_settings setup;
+    size_t last;  /* the position last offered the bus; 0 before the first offer */
+    uint8_t held; /* 1 where joins are held until the next offer, else 0 */
+    struct nadrelgos_stand stand;
+    struct nadrelgos_kept kept;
+};
+
+/* What the panel now does: byte 1 of an answer. */
+enum nadrelgos_answer_number {
+    NADRELGOS_REFUSED = 0,  /* nothing: the call was refused and changed nothing */
+    NADRELGOS_WAIT = 1,     /* it waits for the board that the answer names: send what was written, if anything was */
+    NADRELGOS_DELIVER = 2,  /* a request for the host was taken, the ACK written: send it, then see to the request */
+    NADRELGOS_TRANSMIT = 3, /* a frame was taken, the ACK written: send it */
+    NADRELGOS_REST = 4      /* nothing to send: a setup, a join, a quiet, an ACK that ended its wait */
+};
+
+/* What the awaited board was sent: byte 3 of an answer that waits. */
+enum nadrelgos_exchange_number {
+    NADRELGOS_OFFER = 1,   /* the bus; it answers an ACK, or a request of its own */
+    NADRELGOS_LIST = 2,    /* the node list; it answers the same list */
+    NADRELGOS_FORWARD = 3, /* another board's request; it answers the response, or an ACK and then the response */
+    NADRELGOS_RETURN = 4   /* the response to its own request; it answers an ACK */
+};
+
+/* What has happened: the event of a step. The wrappers below name it. */
+enum nadrelgos_event_number {
+    NADRELGOS_EVENT_JOIN = 1,  /* a board has joined: kind, mac, session */
+    NADRELGOS_EVENT_TURN = 2,  /* the line is free: out */
+    NADRELGOS_EVENT_FRAME = 3, /* bytes came in: received, out */
+    NADRELGOS_EVENT_QUIET = 4  /* no answer came in time */
+};
+
+/*
+ * The numbers by which a call is refused: byte 0 of an answer, 0 where it was accepted. Each says when it is given,
+ * then what the firmware does next. "Listen on" means: the wait, where one is on, is still on. Drop the bytes and go on
+ * listening until a frame ends the wait; when the reply timer has run out, call nadrelgos_quiet. Where more than one
+ * holds, the first in this order is given: 22; then in setup 21, 13; in a join 12 to 17; in a turn 18, 19, 11; in a
+ * frame 1 to 9, then 11; in a quiet 20.
+ */
+enum nadrelgos_refusal_number {
+    NADRELGOS_ACCEPTED = 0,
+
+    /* a frame: what came in is no good frame, as happens on a line. Listen on. */
+    NADRELGOS_SHORT = 1,           /* under 12 bytes */
+    NADRELGOS_OVER_LONG = 2,       /* its payload length, byte 9, is above 240 */
+    NADRELGOS_LENGTH_MISMATCH = 3, /* not 12 bytes and byte 9 more. If this is common, frames are cut wrongly */
+    NADRELGOS_BAD_CHECKSUM = 4,    /* its two sums are not 0 */
+
+    /* a frame: good, and not what is awaited. Listen on. */
+    NADRELGOS_NOT_FOR_US = 5,      /* its destination is not 255, the coordinator */
+    NADRELGOS_NOT_AWAITED = 6,     /* no wait is on, or it is from another board than the one awaited */
+    NADRELGOS_UNEXPECTED_TYPE = 7, /* a message type that this wait does not take; or type 0 that is no ACK of this
+                                      board: another form, or another MAC, as where a board was exchanged */
+    NADRELGOS_BAD_ECHO = 8,        /* after a list: another list than the one sent */
+    NADRELGOS_BAD_METHOD = 9,      /* a request with a send method above 3 */
+
+    /* what is written */
+    NADRELGOS_PAYLOAD_TOO_LONG = 10, /* a payload over 240 bytes to write. These functions never give it */
+    NADRELGOS_NO_ROOM = 11,          /* a turn or a frame: out is shorter than the frame due. Call again with more room,
+                                        and for a frame with the same bytes. NADRELGOS_ROOM always suffices */
+
+    /* a join */
+    NADRELGOS_BAD_TYPE = 12,      /* node type 0 or 165; also an event number that is none of the four. Give it up */
+    NADRELGOS_BAD_MAC = 13,       /* a MAC of 0 or above NADRELGOS_MAC_MAX, in a setup too. Give it up */
+    NADRELGOS_BUSY = 14,          /* a wait is on, or a forward, a return or a list is due. Keep the join, go on with
+                                     turns, and try again after each step that leaves no wait */
+    NADRELGOS_HELD = 15,          /* no offer was made since the last join. The same */
+    NADRELGOS_FULL = 16,          /* a new MAC, and all k positions are taken. Try again when a board was dropped */
+    NADRELGOS_ADDRESS_CLASH = 17, /* the address chosen is listed already. Proved never to be given (FitForEver) */
+
+    /* a turn */
+    NADRELGOS_AWAITING_REPLY = 18, /* a wait is on. Call nadrelgos_frame or nadrelgos_quiet first */
+    NADRELGOS_NOBODY_LISTED = 19,  /* no board is listed, so that there is nobody to talk to. Wait for a join */
+
+    /* a quiet */
+    NADRELGOS_NOT_WAITING = 20, /* no wait is on: the reply timer ran on after the wait. Stop it; call nadrelgos_turn */
+
+    /* a setup */
+    NADRELGOS_BAD_POOL = 21, /* not 1 to 40 addresses from 1 to 254, each above the one before. Mend them */
+
+    /* any call */
+    NADRELGOS_STATE_UNFIT = 22 /* nodes_count is not 40; or, in a step, coordinator and table are not fit: no setup was
+                                  accepted, or something else has written to them. Call nadrelgos_setup; the boards
+                                  have to join again */
+};
+
+/*
+ * The fresh start: nobody is listed, no wait, nothing due, no join held. Both records are written whole.
+ *
+ *   coordinator            the one coordinator record
+ *   nodes, nodes_count     the node records and their count, 40
+ *   addresses, .._count    the pool: 1 to 40 addresses, each 1 to 254 and above the one before. Position i is the
+ *                          i-th of them. The shipped pool is 16 to 55
+ *   subnet, internal       any bytes: see struct nadrelgos_settings
+ *   mac, session           the panel's own; the MAC is 1 to NADRELGOS_MAC_MAX, the session any number
+ *
+ * Answers NADRELGOS_REST and all else 0, or refuses: 22 (only where nodes_count is not 40), 21, 13.
+ */
+uint64_t nadrelgos_setup(struct nadrelgos_coordinator *coordinator, struct nadrelgos_node *nodes, size_t nodes_count,
+                         const uint8_t *addresses, size_t addresses_count, uint8_t subnet, uint8_t internal,
+                         uint64_t mac, uint64_t session);
+
+/*
+ * One step. Use the wrappers below, each of which is this call for one event.
+ *
+ *   coordinator, nodes     the records that setup has written, updated where they stand
+ *   event                  one of enum nadrelgos_event_number. Any other is a join of node type 0: always refused
+ *   kind, mac, session     looked at in a join only
+ *   received, .._count     looked at in a frame only: the bytes of one whole frame, check bytes included
+ *   out, out_count         written in a turn and a frame only: the frame to send, at the front. Bytes past it stay
+ */
+uint64_t nadrelgos_step(struct nadrelgos_coordinator *coordinator, struct nadrelgos_node *nodes, size_t nodes_count,
+                        uint8_t event, uint8_t kind, uint64_t mac, uint64_t session, const uint8_t *received,
+                        size_t received_count, uint8_t *out, size_t out_count);
+
+/*
+ * Changes one node record, for tools and tests. A firmware has no need of it: boards are listed by joins and cleared by
+ * quiets, and what is promised of the list is promised of records that only setup and the steps have written.
+ *
+ *   nodes, nodes_count     the node records and their count, 40
+ *   change                 one of enum nadrelgos_change_number. Any other changes nothing
+ *   position               1 to 40. Any other names nobody, and nothing is changed
+ *   kind, mac, session     looked at in NADRELGOS_CHANGE_LIST only
+ *
+ * Whether the records are fit afterwards is not tested here: the next step tests it, and refuses 22 where they are not,
+ * as with a MAC that is listed twice or a board cleared that a wait names.
+ *
+ * Answers NADRELGOS_REST and all else 0, or refuses 22 where nodes_count is not 40.
+ */
+enum nadrelgos_change_number {
+    NADRELGOS_CHANGE_LIST = 1,  /* a new board's record there, whatever stood there: no misses, no list owed */
+    NADRELGOS_CHANGE_CLEAR = 2, /* the position freed: all zeros */
+    NADRELGOS_CHANGE_MARK = 3   /* the node list owed to the board there; a free position stays as it is */
+};
+uint64_t nadrelgos_amend(struct nadrelgos_node *nodes, size_t nodes_count, uint8_t change, size_t position,
+                         uint8_t kind, uint64_t mac, uint64_t session);
+
+/*
+ * The parts of an answer, low byte first: the refusal's number, the answer, the board awaited, its exchange, the
+ * position joined, the position dropped, and in two bytes the count of bytes written. Positions are 1 to k, 0 for none.
+ */
+
+/* Why the call was refused, by enum nadrelgos_refusal_number; 0 where it was accepted. All other parts are then 0. */
+static inline unsigned nadrelgos_refusal(uint64_t answer) { return (unsigned)(answer & 0xFF); }
+
+/* What the panel now does, by enum nadrelgos_answer_number. */
+static inline unsigned nadrelgos_answer(uint64_t answer) { return (unsigned)(answer >> 8 & 0xFF); }
+
+/* The position of the board awaited; 0 in an answer that does not wait. */
+static inline unsigned nadrelgos_board(uint64_t answer) { return (unsigned)(answer >> 16 & 0xFF); }
+
+/* What that board was sent, by enum nadrelgos_exchange_number; 0 in an answer that does not wait. */
+static inline unsigned nadrelgos_exchange(uint64_t answer) { return (unsigned)(answer >> 24 & 0xFF); }
+
+/* The position that a join gave: the lowest free one, or the board's own where its MAC is listed already. The board
+   is to have the address coordinator->setup.pool[position - 1]. */
+static inline unsigned nadrelgos_joined(uint64_t answer) { return (unsigned)(answer >> 32 & 0xFF); }
+
+/* The position that a quiet freed: its board left a third message in a row unanswered. */
+static inline unsigned nadrelgos_dropped(uint64_t answer) { return (unsigned)(answer >> 40 & 0xFF); }
+
+/* How many bytes of out are to be sent: at most NADRELGOS_ROOM. */
+static inline size_t nadrelgos_written(uint64_t answer) { return (size_t)(answer >> 48); }
+
+/* The steps. `nodes` are NADRELGOS_NODES records. */
+
+/*
+ * A board has joined. A new MAC gets the lowest free position; a listed one keeps its position and its type, has its
+ * session replaced and its misses cleared. The list is then owed to every board. Refused 22, 12 to 17.
+ */
+static inline uint64_t nadrelgos_join(struct nadrelgos_coordinator *coordinator, struct nadrelgos_node *nodes,
+                                      uint8_t kind, uint64_t mac, uint64_t session) {
+    const uint8_t no_bytes = 0;
+    uint8_t no_room = 0;
+    return nadrelgos_step(coordinator, nodes, NADRELGOS_NODES, NADRELGOS_EVENT_JOIN, kind, mac, session, &no_bytes, 0,
+                          &no_room, 0);
+}
+
+/*
+ * The panel's turn: it writes the next frame to send and waits for the board that it goes to. A return that is due
+ * comes first, then a forward, then the lists that are owed, then an offer to the next board round. Refused 22, 18, 19,
+ * 11.
+ */
+static inline uint64_t nadrelgos_turn(struct nadrelgos_coordinator *coordinator, struct nadrelgos_node *nodes,
+                                      uint8_t *out, size_t out_count) {
+    const uint8_t no_bytes = 0;
+    return nadrelgos_step(coordinator, nodes, NADRELGOS_NODES, NADRELGOS_EVENT_TURN, 0, 0, 0, &no_bytes, 0, out,
+                          out_count);
+}
+
+/*
+ * A frame came in: one whole frame, check bytes included. Where it is taken the board's misses are cleared, and the ACK
+ * due to it, where one is, is written. Refused 22, 1 to 9, 11.
+ */
+static inline uint64_t nadrelgos_frame(struct nadrelgos_coordinator *coordinator, struct nadrelgos_node *nodes,
+                                       const uint8_t *received, size_t received_count, uint8_t *out,
+                                       size_t out_count) {
+    return nadrelgos_step(coordinator, nodes, NADRELGOS_NODES, NADRELGOS_EVENT_FRAME, 0, 0, 0, received, received_count,
+                          out, out_count);
+}
+
+/*
+ * The time for the reply has passed and the wait is still on: the board has one miss more, and the third in a row drops
+ * it. Where the ACK to a forward has come and its response has not, there is no miss. The exchange is over either way.
+ * Refused 22, 20.
+ */
+static inline uint64_t nadrelgos_quiet(struct nadrelgos_coordinator *coordinator, struct nadrelgos_node *nodes) {
+    const uint8_t no_bytes = 0;
+    uint8_t no_room = 0;
+    return nadrelgos_step(coordinator, nodes, NADRELGOS_NODES, NADRELGOS_EVENT_QUIET, 0, 0, 0, &no_bytes, 0, &no_room,
+                          0);
+}
+
+/* The layout that the archive was built with. */
+#if defined(__cplusplus) && __cplusplus >= 201103L
+#define NADRELGOS_LAID_OUT(test) static_assert(test, "the records are not laid out as libpanel.a has them: " #test)
+#elif defined(__STDC_VERSION__) && __STDC_VERSION__ >= 201112L
+#define NADRELGOS_LAID_OUT(test) _Static_assert(test, "the records are not laid out as libpanel.a has them: " #test)
+#endif
+#ifdef NADRELGOS_LAID_OUT
+NADRELGOS_LAID_OUT(sizeof(size_t) == 8);
+
+NADRELGOS_LAID_OUT(sizeof(struct nadrelgos_node) == 32);
+NADRELGOS_LAID_OUT(offsetof(struct nadrelgos_node, kind) == 0);
+NADRELGOS_LAID_OUT(offsetof(struct nadrelgos_node, mac) == 8);
+NADRELGOS_LAID_OUT(offsetof(struct nadrelgos_node, session) == 16);
+NADRELGOS_LAID_OUT(offsetof(struct nadrelgos_node, misses) == 24);
+NADRELGOS_LAID_OUT(offsetof(struct nadrelgos_node, owed) == 25);
+
+NADRELGOS_LAID_OUT(sizeof(struct nadrelgos_settings) == 72);
+NADRELGOS_LAID_OUT(offsetof(struct nadrelgos_settings, pool) == 0);
+NADRELGOS_LAID_OUT(offsetof(struct nadrelgos_settings, k) == 40);
+NADRELGOS_LAID_OUT(offsetof(struct nadrelgos_settings, subnet) == 48);
+NADRELGOS_LAID_OUT(offsetof(struct nadrelgos_settings, internal) == 49);
+NADRELGOS_LAID_OUT(offsetof(struct nadrelgos_settings, mac) == 56);
+NADRELGOS_LAID_OUT(offsetof(struct nadrelgos_settings, session) == 64);
+
+NADRELGOS_LAID_OUT(sizeof(struct nadrelgos_stand) == 24);
+NADRELGOS_LAID_OUT(offsetof(struct nadrelgos_stand, stage) == 0);
+NADRELGOS_LAID_OUT(offsetof(struct nadrelgos_stand, board) == 8);
+NADRELGOS_LAID_OUT(offsetof(struct nadrelgos_stand, requester) == 16);
+
+NADRELGOS_LAID_OUT(sizeof(struct nadrelgos_kept) == 256);
+NADRELGOS_LAID_OUT(offsetof(struct nadrelgos_kept, message) == 0);
+NADRELGOS_LAID_OUT(offsetof(struct nadrelgos_kept, packet) == 1);
+NADRELGOS_LAID_OUT(offsetof(struct nadrelgos_kept, kind) == 2);
+NADRELGOS_LAID_OUT(offsetof(struct nadrelgos_kept, method) == 3);
+NADRELGOS_LAID_OUT(offsetof(struct nadrelgos_kept, parameter) == 4);
+NADRELGOS_LAID_OUT(offsetof(struct nadrelgos_kept, length) == 8);
+NADRELGOS_LAID_OUT(offsetof(struct nadrelgos_kept, payload) == 16);
+
+NADRELGOS_LAID_OUT(sizeof(struct nadrelgos_coordinator) == 368);
+NADRELGOS_LAID_OUT(offsetof(struct nadrelgos_coordinator, setup) == 0);
+NADRELGOS_LAID_OUT(offsetof(struct nadrelgos_coordinator, last) == 72);
+NADRELGOS_LAID_OUT(offsetof(struct nadrelgos_coordinator, held) == 80);
+NADRELGOS_LAID_OUT(offsetof(struct nadrelgos_coordinator, stand) == 88);
+NADRELGOS_LAID_OUT(offsetof(struct nadrelgos_coordinator, kept) == 112);
+#undef NADRELGOS_LAID_OUT
+#endif
+
+#ifdef __cplusplus
+}
+#endif
+
+#endif
