@@ -46,29 +46,29 @@ bool ct_good(const uint8_t *bytes, size_t count)
 
 /* ---- frame ---- */
 
-enum ct_refusal ct_read(const uint8_t *bytes, size_t count, struct ct_frame *frame)
+ct_refusal ct_read(const uint8_t *bytes, size_t count, struct ct_frame *frame)
 {
     if (count < CT_OVERHEAD)
-        return CT_SHORT;
+        return NADRELGOS_SHORT;
     size_t length = bytes[9];
     if (length > CT_PAYLOAD)
-        return CT_OVER_LONG;
+        return NADRELGOS_OVER_LONG;
     if (count != CT_OVERHEAD + length)
-        return CT_LENGTH_MISMATCH;
+        return NADRELGOS_LENGTH_MISMATCH;
     if (!ct_good(bytes, count))
-        return CT_BAD_CHECKSUM;
+        return NADRELGOS_BAD_CHECKSUM;
     memcpy(&frame->header, bytes, sizeof frame->header);
     frame->payload = bytes + 10;
     frame->length = length;
-    return CT_TAKEN;
+    return NADRELGOS_ACCEPTED;
 }
 
-enum ct_refusal ct_write(const struct ct_header *header, const uint8_t *payload, size_t length, uint8_t *out, size_t room)
+ct_refusal ct_write(const struct ct_header *header, const uint8_t *payload, size_t length, uint8_t *out, size_t room)
 {
     if (length > CT_PAYLOAD)
-        return CT_PAYLOAD_TOO_LONG;
+        return NADRELGOS_PAYLOAD_TOO_LONG;
     if (room < CT_OVERHEAD + length)
-        return CT_NO_ROOM;
+        return NADRELGOS_NO_ROOM;
     memcpy(out, header, sizeof *header);
     out[9] = (uint8_t)length;
     memcpy(out + 10, payload, length);
@@ -76,7 +76,7 @@ enum ct_refusal ct_write(const struct ct_header *header, const uint8_t *payload,
     uint32_t check = 255 - (s.first + s.second) % 255;
     out[10 + length] = (uint8_t)check;
     out[11 + length] = (uint8_t)(255 - (s.first + check) % 255);
-    return CT_TAKEN;
+    return NADRELGOS_ACCEPTED;
 }
 
 /* ---- finder ---- */
@@ -97,9 +97,9 @@ struct ct_finding ct_find(const uint8_t *bytes, size_t count, size_t budget)
 
 /* ---- boards and positions; position p is nodes[p - 1] ---- */
 
-static bool is_listed(const struct ct_node *nodes, size_t position)
+static bool is_listed(const ct_node *nodes, size_t position)
 {
-    return position >= 1 && position <= CT_RECORDS && nodes[position - 1].kind != 0;
+    return position >= 1 && position <= NADRELGOS_NODES && nodes[position - 1].kind != 0;
 }
 
 static bool is_mac(uint64_t mac)
@@ -112,20 +112,20 @@ static bool is_kind(uint8_t kind)
     return kind != 0 && kind != OUR_KIND;
 }
 
-static uint8_t address_of(const struct ct_coordinator *c, size_t position)
+static uint8_t address_of(const ct_coordinator *c, size_t position)
 {
     return c->setup.pool[position - 1];
 }
 
-static bool anyone_listed(const struct ct_node *nodes)
+static bool anyone_listed(const ct_node *nodes)
 {
-    for (size_t i = 0; i < CT_RECORDS; i++)
+    for (size_t i = 0; i < NADRELGOS_NODES; i++)
         if (nodes[i].kind != 0)
             return true;
     return false;
 }
 
-static size_t lowest_of_kind(const struct ct_node *nodes, size_t k, uint8_t kind)
+static size_t lowest_of_kind(const ct_node *nodes, size_t k, uint8_t kind)
 {
     if (kind == 0)
         return 0;
@@ -135,7 +135,7 @@ static size_t lowest_of_kind(const struct ct_node *nodes, size_t k, uint8_t kind
     return 0;
 }
 
-static size_t lowest_owed(const struct ct_node *nodes, size_t k)
+static size_t lowest_owed(const ct_node *nodes, size_t k)
 {
     for (size_t i = 0; i < k; i++)
         if (nodes[i].kind != 0 && nodes[i].owed)
@@ -143,7 +143,7 @@ static size_t lowest_owed(const struct ct_node *nodes, size_t k)
     return 0;
 }
 
-static uint8_t index_of(const struct ct_node *nodes, size_t position)
+static uint8_t index_of(const ct_node *nodes, size_t position)
 {
     uint8_t index = 0, kind = nodes[position - 1].kind;
     for (size_t i = 0; i + 1 < position; i++)
@@ -152,9 +152,9 @@ static uint8_t index_of(const struct ct_node *nodes, size_t position)
     return index;
 }
 
-static void owe_all(struct ct_node *nodes)
+static void owe_all(ct_node *nodes)
 {
-    for (size_t i = 0; i < CT_RECORDS; i++)
+    for (size_t i = 0; i < NADRELGOS_NODES; i++)
         if (nodes[i].kind != 0)
             nodes[i].owed = 1;
 }
@@ -163,7 +163,7 @@ static void owe_all(struct ct_node *nodes)
 
 static bool pool_fits(const uint8_t *addresses, size_t k)
 {
-    if (k < 1 || k > CT_RECORDS)
+    if (k < 1 || k > NADRELGOS_NODES)
         return false;
     if (addresses[0] == 0 || addresses[k - 1] == 255)
         return false;
@@ -173,16 +173,16 @@ static bool pool_fits(const uint8_t *addresses, size_t k)
     return true;
 }
 
-static bool record_fits(const struct ct_node *n, bool may_be_listed)
+static bool record_fits(const ct_node *n, bool may_be_listed)
 {
     if (n->kind == 0)
         return n->mac == 0 && n->session == 0 && n->misses == 0 && n->owed == 0;
     return may_be_listed && n->kind != OUR_KIND && is_mac(n->mac) && n->misses <= 2 && n->owed <= 1;
 }
 
-static bool table_fits(const struct ct_node *nodes, size_t k)
+static bool table_fits(const ct_node *nodes, size_t k)
 {
-    for (size_t i = 0; i < CT_RECORDS; i++) {
+    for (size_t i = 0; i < NADRELGOS_NODES; i++) {
         if (!record_fits(&nodes[i], i < k))
             return false;
         if (nodes[i].kind == 0)
@@ -194,79 +194,79 @@ static bool table_fits(const struct ct_node *nodes, size_t k)
     return true;
 }
 
-static bool keeps_request(const struct ct_kept *m)
+static bool keeps_request(const struct nadrelgos_kept *m)
 {
     return m->message >= 1 && m->message <= 127 && m->method >= 1 && m->method <= 3 && m->length <= CT_PAYLOAD;
 }
 
-static bool keeps_response(const struct ct_kept *m)
+static bool keeps_response(const struct nadrelgos_kept *m)
 {
     return m->message > RESPONSE && m->length <= CT_PAYLOAD;
 }
 
-static bool stand_fits(const struct ct_coordinator *c, const struct ct_node *nodes)
+static bool stand_fits(const ct_coordinator *c, const ct_node *nodes)
 {
-    const struct ct_stand *s = &c->stand;
+    const struct nadrelgos_stand *s = &c->stand;
     switch (s->stage) {
-    case CT_RESTING:
+    case CT_STAGE_RESTING:
         return true;
-    case CT_WAIT_OFFER:
-    case CT_WAIT_LIST:
-    case CT_WAIT_RETURN:
+    case CT_STAGE_WAIT_OFFER:
+    case CT_STAGE_WAIT_LIST:
+    case CT_STAGE_WAIT_RETURN:
         return is_listed(nodes, s->board);
-    case CT_WAIT_FORWARD:
-    case CT_WAIT_FORWARD_ACKED:
-    case CT_FORWARD_DUE:
+    case CT_STAGE_WAIT_FORWARD:
+    case CT_STAGE_WAIT_FORWARD_ACKED:
+    case CT_STAGE_FORWARD_DUE:
         return is_listed(nodes, s->board) && is_listed(nodes, s->requester) && keeps_request(&c->kept);
-    case CT_RETURN_DUE:
+    case CT_STAGE_RETURN_DUE:
         return is_listed(nodes, s->board) && keeps_response(&c->kept);
     default:
         return false;
     }
 }
 
-static bool is_fit(const struct ct_coordinator *c, const struct ct_node *nodes, size_t nodes_count)
+static bool is_fit(const ct_coordinator *c, const ct_node *nodes, size_t nodes_count)
 {
-    return nodes_count == CT_RECORDS && pool_fits(c->setup.pool, c->setup.k) && is_mac(c->setup.mac) &&
+    return nodes_count == NADRELGOS_NODES && pool_fits(c->setup.pool, c->setup.k) && is_mac(c->setup.mac) &&
            table_fits(nodes, c->setup.k) && stand_fits(c, nodes) &&
            (c->held == 0 || (c->held == 1 && anyone_listed(nodes))) && c->last <= c->setup.k;
 }
 
 /* ---- answers ---- */
 
-static struct ct_answer refuse(enum ct_refusal number)
+static struct ct_answer refuse(ct_refusal number)
 {
     return (struct ct_answer){.refusal = (uint8_t)number};
 }
 
-static struct ct_answer does(enum ct_does what, size_t written)
+static struct ct_answer does(enum nadrelgos_answer_number what, size_t written)
 {
     return (struct ct_answer){.does = (uint8_t)what, .written = (uint16_t)written};
 }
 
-static struct ct_answer wait_for(size_t board, enum ct_exchange exchange, size_t written)
+static struct ct_answer wait_for(size_t board, enum nadrelgos_exchange_number exchange, size_t written)
 {
     return (struct ct_answer){
-        .does = CT_WAIT, .board = (uint8_t)board, .exchange = (uint8_t)exchange, .written = (uint16_t)written};
+        .does = NADRELGOS_WAIT, .board = (uint8_t)board, .exchange = (uint8_t)exchange, .written = (uint16_t)written};
 }
 
-static void stand(struct ct_coordinator *c, enum ct_stage stage, size_t board, size_t requester)
+static void stand(ct_coordinator *c, enum ct_stage stage, size_t board, size_t requester)
 {
-    c->stand = (struct ct_stand){(uint8_t)stage, board, requester};
+    c->stand = (struct nadrelgos_stand){(uint8_t)stage, board, requester};
 }
 
 /* ---- setup and join ---- */
 
-struct ct_answer ct_start(struct ct_coordinator *c, struct ct_node *nodes, size_t nodes_count, const uint8_t *addresses,
-                          size_t k, uint8_t subnet, uint8_t internal, uint64_t mac, uint64_t session)
+struct ct_answer ct_setup(ct_coordinator *c, ct_node *nodes, size_t nodes_count, const uint8_t *addresses, size_t k,
+                          uint8_t subnet, uint8_t internal, uint64_t mac, uint64_t session)
 {
-    if (nodes_count != CT_RECORDS)
-        return refuse(CT_STATE_UNFIT);
+    if (nodes_count != NADRELGOS_NODES)
+        return refuse(NADRELGOS_STATE_UNFIT);
     if (!pool_fits(addresses, k))
-        return refuse(CT_BAD_POOL);
+        return refuse(NADRELGOS_BAD_POOL);
     if (!is_mac(mac))
-        return refuse(CT_BAD_MAC);
-    memset(nodes, 0, CT_RECORDS * sizeof *nodes);
+        return refuse(NADRELGOS_BAD_MAC);
+    memset(nodes, 0, NADRELGOS_NODES * sizeof *nodes);
     memset(c, 0, sizeof *c);
     memcpy(c->setup.pool, addresses, k);
     c->setup.k = k;
@@ -274,23 +274,23 @@ struct ct_answer ct_start(struct ct_coordinator *c, struct ct_node *nodes, size_
     c->setup.internal = internal;
     c->setup.mac = mac;
     c->setup.session = session;
-    return does(CT_REST, 0);
+    return does(NADRELGOS_REST, 0);
 }
 
-struct ct_answer ct_join(struct ct_coordinator *c, struct ct_node *nodes, size_t nodes_count, uint8_t kind, uint64_t mac,
+struct ct_answer ct_join(ct_coordinator *c, ct_node *nodes, size_t nodes_count, uint8_t kind, uint64_t mac,
                          uint64_t session)
 {
     if (!is_fit(c, nodes, nodes_count))
-        return refuse(CT_STATE_UNFIT);
+        return refuse(NADRELGOS_STATE_UNFIT);
     if (!is_kind(kind))
-        return refuse(CT_BAD_TYPE);
+        return refuse(NADRELGOS_BAD_TYPE);
     if (!is_mac(mac))
-        return refuse(CT_BAD_MAC);
+        return refuse(NADRELGOS_BAD_MAC);
     size_t k = c->setup.k;
-    if (c->stand.stage != CT_RESTING || lowest_owed(nodes, k) != 0)
-        return refuse(CT_BUSY);
+    if (c->stand.stage != CT_STAGE_RESTING || lowest_owed(nodes, k) != 0)
+        return refuse(NADRELGOS_BUSY);
     if (c->held)
-        return refuse(CT_HELD);
+        return refuse(NADRELGOS_HELD);
     size_t known = 0, open = 0;
     for (size_t i = k; i > 0; i--) {
         if (nodes[i - 1].kind == 0)
@@ -300,20 +300,20 @@ struct ct_answer ct_join(struct ct_coordinator *c, struct ct_node *nodes, size_t
     }
     size_t position = known ? known : open;
     if (position == 0)
-        return refuse(CT_FULL);
-    struct ct_node *n = &nodes[position - 1];
+        return refuse(NADRELGOS_FULL);
+    ct_node *n = &nodes[position - 1];
     if (known) {
         n->session = session;
         n->misses = 0;
     } else {
         for (size_t i = 0; i < k; i++)
             if (nodes[i].kind != 0 && c->setup.pool[i] == c->setup.pool[position - 1])
-                return refuse(CT_ADDRESS_CLASH);
-        *n = (struct ct_node){.kind = kind, .mac = mac, .session = session};
+                return refuse(NADRELGOS_ADDRESS_CLASH);
+        *n = (ct_node){.kind = kind, .mac = mac, .session = session};
     }
     owe_all(nodes);
     c->held = 1;
-    struct ct_answer answer = does(CT_REST, 0);
+    struct ct_answer answer = does(NADRELGOS_REST, 0);
     answer.joined = (uint8_t)position;
     return answer;
 }
@@ -334,8 +334,8 @@ static uint64_t word_at(const uint8_t *bytes)
     return word;
 }
 
-static struct ct_header own_header(const struct ct_coordinator *c, const struct ct_node *nodes, size_t board,
-                                   uint8_t message, uint8_t packet)
+static struct ct_header own_header(const ct_coordinator *c, const ct_node *nodes, size_t board, uint8_t message,
+                                   uint8_t packet)
 {
     return (struct ct_header){.destination = address_of(c, board),
                               .source = COORDINATOR,
@@ -347,8 +347,8 @@ static struct ct_header own_header(const struct ct_coordinator *c, const struct 
 }
 
 /* The offer and the ACK differ in the code alone. */
-static enum ct_refusal write_signed(const struct ct_coordinator *c, const struct ct_node *nodes, size_t board,
-                                    uint8_t code, uint8_t *out, size_t room)
+static ct_refusal write_signed(const ct_coordinator *c, const ct_node *nodes, size_t board, uint8_t code, uint8_t *out,
+                               size_t room)
 {
     uint8_t payload[SIGNED];
     payload[0] = code;
@@ -359,11 +359,11 @@ static enum ct_refusal write_signed(const struct ct_coordinator *c, const struct
 }
 
 /* The node list, up to the highest listed position. */
-static size_t node_list(const struct ct_coordinator *c, const struct ct_node *nodes, uint8_t list[CT_RECORDS + 1])
+static size_t node_list(const ct_coordinator *c, const ct_node *nodes, uint8_t list[NADRELGOS_NODES + 1])
 {
     size_t length = 1;
     list[0] = c->setup.internal;
-    for (size_t i = 0; i < CT_RECORDS; i++) {
+    for (size_t i = 0; i < NADRELGOS_NODES; i++) {
         list[i + 1] = nodes[i].kind;
         if (nodes[i].kind != 0)
             length = i + 2;
@@ -371,10 +371,9 @@ static size_t node_list(const struct ct_coordinator *c, const struct ct_node *no
     return length;
 }
 
-static enum ct_refusal write_kept(const struct ct_coordinator *c, size_t board, uint8_t parameter2, uint8_t *out,
-                                  size_t room)
+static ct_refusal write_kept(const ct_coordinator *c, size_t board, uint8_t parameter2, uint8_t *out, size_t room)
 {
-    const struct ct_kept *m = &c->kept;
+    const struct nadrelgos_kept *m = &c->kept;
     struct ct_header header = {.destination = address_of(c, board),
                                .source = COORDINATOR,
                                .subnet = c->setup.subnet,
@@ -389,7 +388,7 @@ static enum ct_refusal write_kept(const struct ct_coordinator *c, size_t board, 
 
 /* ---- turn ---- */
 
-static size_t next_listed(const struct ct_coordinator *c, const struct ct_node *nodes)
+static size_t next_listed(const ct_coordinator *c, const ct_node *nodes)
 {
     size_t k = c->setup.k, position = c->last;
     for (size_t left = k; left > 0; left--) {
@@ -400,59 +399,60 @@ static size_t next_listed(const struct ct_coordinator *c, const struct ct_node *
     return 0;
 }
 
-static struct ct_answer turn_carried(struct ct_coordinator *c, uint8_t parameter2, enum ct_stage stage,
-                                     enum ct_exchange exchange, uint8_t *out, size_t room)
+static struct ct_answer turn_carried(ct_coordinator *c, uint8_t parameter2, enum ct_stage stage,
+                                     enum nadrelgos_exchange_number exchange, uint8_t *out, size_t room)
 {
     size_t board = c->stand.board;
-    enum ct_refusal refusal = write_kept(c, board, parameter2, out, room);
+    ct_refusal refusal = write_kept(c, board, parameter2, out, room);
     if (refusal)
         return refuse(refusal);
-    stand(c, stage, board, exchange == CT_FORWARD ? c->stand.requester : 0);
+    stand(c, stage, board, exchange == NADRELGOS_FORWARD ? c->stand.requester : 0);
     return wait_for(board, exchange, CT_OVERHEAD + c->kept.length);
 }
 
-static struct ct_answer turn_list(struct ct_coordinator *c, struct ct_node *nodes, size_t board, uint8_t *out, size_t room)
+static struct ct_answer turn_list(ct_coordinator *c, ct_node *nodes, size_t board, uint8_t *out, size_t room)
 {
-    uint8_t list[CT_RECORDS + 1];
+    uint8_t list[NADRELGOS_NODES + 1];
     size_t length = node_list(c, nodes, list);
     struct ct_header header = own_header(c, nodes, board, TYPE_LIST, 0);
-    enum ct_refusal refusal = ct_write(&header, list, length, out, room);
+    ct_refusal refusal = ct_write(&header, list, length, out, room);
     if (refusal)
         return refuse(refusal);
     nodes[board - 1].owed = 0;
-    stand(c, CT_WAIT_LIST, board, 0);
-    return wait_for(board, CT_LIST, CT_OVERHEAD + length);
+    stand(c, CT_STAGE_WAIT_LIST, board, 0);
+    return wait_for(board, NADRELGOS_LIST, CT_OVERHEAD + length);
 }
 
-static struct ct_answer turn_offer(struct ct_coordinator *c, const struct ct_node *nodes, uint8_t *out, size_t room)
+static struct ct_answer turn_offer(ct_coordinator *c, const ct_node *nodes, uint8_t *out, size_t room)
 {
     size_t board = next_listed(c, nodes);
-    enum ct_refusal refusal = write_signed(c, nodes, board, CODE_OFFER, out, room);
+    ct_refusal refusal = write_signed(c, nodes, board, CODE_OFFER, out, room);
     if (refusal)
         return refuse(refusal);
     c->last = board;
     c->held = 0;
-    stand(c, CT_WAIT_OFFER, board, 0);
-    return wait_for(board, CT_OFFER, CT_OVERHEAD + SIGNED);
+    stand(c, CT_STAGE_WAIT_OFFER, board, 0);
+    return wait_for(board, NADRELGOS_OFFER, CT_OVERHEAD + SIGNED);
 }
 
-static bool is_waiting(const struct ct_coordinator *c)
+static bool is_waiting(const ct_coordinator *c)
 {
-    return c->stand.stage >= CT_WAIT_OFFER && c->stand.stage <= CT_WAIT_RETURN;
+    return c->stand.stage >= CT_STAGE_WAIT_OFFER && c->stand.stage <= CT_STAGE_WAIT_RETURN;
 }
 
-struct ct_answer ct_turn(struct ct_coordinator *c, struct ct_node *nodes, size_t nodes_count, uint8_t *out, size_t room)
+struct ct_answer ct_turn(ct_coordinator *c, ct_node *nodes, size_t nodes_count, uint8_t *out, size_t room)
 {
     if (!is_fit(c, nodes, nodes_count))
-        return refuse(CT_STATE_UNFIT);
+        return refuse(NADRELGOS_STATE_UNFIT);
     if (is_waiting(c))
-        return refuse(CT_AWAITING_REPLY);
+        return refuse(NADRELGOS_AWAITING_REPLY);
     if (!anyone_listed(nodes))
-        return refuse(CT_NOBODY_LISTED);
-    if (c->stand.stage == CT_RETURN_DUE)
-        return turn_carried(c, 0, CT_WAIT_RETURN, CT_RETURN, out, room);
-    if (c->stand.stage == CT_FORWARD_DUE)
-        return turn_carried(c, index_of(nodes, c->stand.requester), CT_WAIT_FORWARD, CT_FORWARD, out, room);
+        return refuse(NADRELGOS_NOBODY_LISTED);
+    if (c->stand.stage == CT_STAGE_RETURN_DUE)
+        return turn_carried(c, 0, CT_STAGE_WAIT_RETURN, NADRELGOS_RETURN, out, room);
+    if (c->stand.stage == CT_STAGE_FORWARD_DUE)
+        return turn_carried(c, index_of(nodes, c->stand.requester), CT_STAGE_WAIT_FORWARD, NADRELGOS_FORWARD, out,
+                            room);
     size_t owed = lowest_owed(nodes, c->setup.k);
     if (owed)
         return turn_list(c, nodes, owed, out, room);
@@ -472,7 +472,7 @@ static const uint8_t priorities[6][5] = {
     {ZC, AH, IFC, XOVER},     /* 105 aux heat */
 };
 
-static size_t route(const struct ct_coordinator *c, const struct ct_node *nodes, uint8_t method, uint8_t parameter)
+static size_t route(const ct_coordinator *c, const ct_node *nodes, uint8_t method, uint8_t parameter)
 {
     size_t k = c->setup.k;
     switch (method) {
@@ -495,7 +495,7 @@ static size_t route(const struct ct_coordinator *c, const struct ct_node *nodes,
 
 /* ---- frame ---- */
 
-static void keep(struct ct_kept *m, const struct ct_frame *f)
+static void keep(struct nadrelgos_kept *m, const struct ct_frame *f)
 {
     m->message = f->header.message;
     m->packet = f->header.packet;
@@ -507,12 +507,12 @@ static void keep(struct ct_kept *m, const struct ct_frame *f)
     memset(m->payload + f->length, 0, CT_PAYLOAD - f->length);
 }
 
-static bool is_ack(const struct ct_frame *f, const struct ct_node *n)
+static bool is_ack(const struct ct_frame *f, const ct_node *n)
 {
     return f->length == SIGNED && f->payload[0] == CODE_ACK && word_at(f->payload + 1) == n->mac;
 }
 
-static void hear_ack(struct ct_node *nodes, struct ct_node *n, const struct ct_frame *f)
+static void hear_ack(ct_node *nodes, ct_node *n, const struct ct_frame *f)
 {
     uint64_t session = word_at(f->payload + 9);
     n->misses = 0;
@@ -523,112 +523,111 @@ static void hear_ack(struct ct_node *nodes, struct ct_node *n, const struct ct_f
 }
 
 /* Writes the ACK due to the sender; from there on the frame is accepted. */
-static enum ct_refusal acknowledge(const struct ct_coordinator *c, struct ct_node *nodes, size_t board, uint8_t *out,
-                                   size_t room)
+static ct_refusal acknowledge(const ct_coordinator *c, ct_node *nodes, size_t board, uint8_t *out, size_t room)
 {
-    enum ct_refusal refusal = write_signed(c, nodes, board, CODE_ACK, out, room);
+    ct_refusal refusal = write_signed(c, nodes, board, CODE_ACK, out, room);
     if (!refusal)
         nodes[board - 1].misses = 0;
     return refusal;
 }
 
-static struct ct_answer hear_after_offer(struct ct_coordinator *c, struct ct_node *nodes, const struct ct_frame *f,
-                                         uint8_t *out, size_t room)
+static struct ct_answer hear_after_offer(ct_coordinator *c, ct_node *nodes, const struct ct_frame *f, uint8_t *out,
+                                         size_t room)
 {
     size_t board = c->stand.board;
     uint8_t message = f->header.message, method = f->header.method;
     if (message == TYPE_R2R) {
         if (!is_ack(f, &nodes[board - 1]))
-            return refuse(CT_UNEXPECTED_TYPE);
+            return refuse(NADRELGOS_UNEXPECTED_TYPE);
         hear_ack(nodes, &nodes[board - 1], f);
-        stand(c, CT_RESTING, 0, 0);
-        return does(CT_REST, 0);
+        stand(c, CT_STAGE_RESTING, 0, 0);
+        return does(NADRELGOS_REST, 0);
     }
     if (message >= RESPONSE)
-        return refuse(CT_UNEXPECTED_TYPE);
+        return refuse(NADRELGOS_UNEXPECTED_TYPE);
     if (method > 3)
-        return refuse(CT_BAD_METHOD);
-    enum ct_refusal refusal = acknowledge(c, nodes, board, out, room);
+        return refuse(NADRELGOS_BAD_METHOD);
+    ct_refusal refusal = acknowledge(c, nodes, board, out, room);
     if (refusal)
         return refuse(refusal);
-    stand(c, CT_RESTING, 0, 0);
+    stand(c, CT_STAGE_RESTING, 0, 0);
     if (method == 0)
-        return does(CT_DELIVER, CT_OVERHEAD + SIGNED);
+        return does(NADRELGOS_DELIVER, CT_OVERHEAD + SIGNED);
     size_t to = route(c, nodes, method, f->header.parameter1);
     if (to != 0 && to != board) {
         keep(&c->kept, f);
-        stand(c, CT_FORWARD_DUE, to, board);
+        stand(c, CT_STAGE_FORWARD_DUE, to, board);
     }
-    return does(CT_TRANSMIT, CT_OVERHEAD + SIGNED);
+    return does(NADRELGOS_TRANSMIT, CT_OVERHEAD + SIGNED);
 }
 
-static struct ct_answer hear_after_list(struct ct_coordinator *c, struct ct_node *nodes, const struct ct_frame *f,
-                                        uint8_t *out, size_t room)
+static struct ct_answer hear_after_list(ct_coordinator *c, ct_node *nodes, const struct ct_frame *f, uint8_t *out,
+                                        size_t room)
 {
     if (f->header.message != TYPE_ECHO)
-        return refuse(CT_UNEXPECTED_TYPE);
-    uint8_t list[CT_RECORDS + 1];
+        return refuse(NADRELGOS_UNEXPECTED_TYPE);
+    uint8_t list[NADRELGOS_NODES + 1];
     size_t length = node_list(c, nodes, list);
     if (f->length != length || memcmp(f->payload, list, length) != 0)
-        return refuse(CT_BAD_ECHO);
-    enum ct_refusal refusal = acknowledge(c, nodes, c->stand.board, out, room);
+        return refuse(NADRELGOS_BAD_ECHO);
+    ct_refusal refusal = acknowledge(c, nodes, c->stand.board, out, room);
     if (refusal)
         return refuse(refusal);
-    stand(c, CT_RESTING, 0, 0);
-    return does(CT_TRANSMIT, CT_OVERHEAD + SIGNED);
+    stand(c, CT_STAGE_RESTING, 0, 0);
+    return does(NADRELGOS_TRANSMIT, CT_OVERHEAD + SIGNED);
 }
 
-static struct ct_answer hear_after_forward(struct ct_coordinator *c, struct ct_node *nodes, const struct ct_frame *f,
-                                           uint8_t *out, size_t room)
+static struct ct_answer hear_after_forward(ct_coordinator *c, ct_node *nodes, const struct ct_frame *f, uint8_t *out,
+                                           size_t room)
 {
     size_t board = c->stand.board, requester = c->stand.requester;
     uint8_t message = f->header.message;
     if (message == TYPE_R2R) {
-        if (c->stand.stage == CT_WAIT_FORWARD_ACKED || !is_ack(f, &nodes[board - 1]))
-            return refuse(CT_UNEXPECTED_TYPE);
+        if (c->stand.stage == CT_STAGE_WAIT_FORWARD_ACKED || !is_ack(f, &nodes[board - 1]))
+            return refuse(NADRELGOS_UNEXPECTED_TYPE);
         hear_ack(nodes, &nodes[board - 1], f);
-        stand(c, CT_WAIT_FORWARD_ACKED, board, requester);
-        return wait_for(board, CT_FORWARD, 0);
+        stand(c, CT_STAGE_WAIT_FORWARD_ACKED, board, requester);
+        return wait_for(board, NADRELGOS_FORWARD, 0);
     }
     if (message != c->kept.message + RESPONSE)
-        return refuse(CT_UNEXPECTED_TYPE);
-    enum ct_refusal refusal = acknowledge(c, nodes, board, out, room);
+        return refuse(NADRELGOS_UNEXPECTED_TYPE);
+    ct_refusal refusal = acknowledge(c, nodes, board, out, room);
     if (refusal)
         return refuse(refusal);
     keep(&c->kept, f);
-    stand(c, CT_RETURN_DUE, requester, 0);
-    return does(CT_TRANSMIT, CT_OVERHEAD + SIGNED);
+    stand(c, CT_STAGE_RETURN_DUE, requester, 0);
+    return does(NADRELGOS_TRANSMIT, CT_OVERHEAD + SIGNED);
 }
 
-static struct ct_answer hear_after_return(struct ct_coordinator *c, struct ct_node *nodes, const struct ct_frame *f)
+static struct ct_answer hear_after_return(ct_coordinator *c, ct_node *nodes, const struct ct_frame *f)
 {
-    struct ct_node *n = &nodes[c->stand.board - 1];
+    ct_node *n = &nodes[c->stand.board - 1];
     if (f->header.message != TYPE_R2R || !is_ack(f, n))
-        return refuse(CT_UNEXPECTED_TYPE);
+        return refuse(NADRELGOS_UNEXPECTED_TYPE);
     hear_ack(nodes, n, f);
-    stand(c, CT_RESTING, 0, 0);
-    return does(CT_REST, 0);
+    stand(c, CT_STAGE_RESTING, 0, 0);
+    return does(NADRELGOS_REST, 0);
 }
 
-struct ct_answer ct_hear(struct ct_coordinator *c, struct ct_node *nodes, size_t nodes_count, const uint8_t *bytes,
-                         size_t count, uint8_t *out, size_t room)
+struct ct_answer ct_hear(ct_coordinator *c, ct_node *nodes, size_t nodes_count, const uint8_t *bytes, size_t count,
+                         uint8_t *out, size_t room)
 {
     if (!is_fit(c, nodes, nodes_count))
-        return refuse(CT_STATE_UNFIT);
+        return refuse(NADRELGOS_STATE_UNFIT);
     struct ct_frame f;
-    enum ct_refusal refusal = ct_read(bytes, count, &f);
+    ct_refusal refusal = ct_read(bytes, count, &f);
     if (refusal)
         return refuse(refusal);
     if (f.header.destination != COORDINATOR)
-        return refuse(CT_NOT_FOR_US);
+        return refuse(NADRELGOS_NOT_FOR_US);
     if (!is_waiting(c) || f.header.source != address_of(c, c->stand.board))
-        return refuse(CT_NOT_AWAITED);
+        return refuse(NADRELGOS_NOT_AWAITED);
     switch (c->stand.stage) {
-    case CT_WAIT_OFFER:
+    case CT_STAGE_WAIT_OFFER:
         return hear_after_offer(c, nodes, &f, out, room);
-    case CT_WAIT_LIST:
+    case CT_STAGE_WAIT_LIST:
         return hear_after_list(c, nodes, &f, out, room);
-    case CT_WAIT_RETURN:
+    case CT_STAGE_WAIT_RETURN:
         return hear_after_return(c, nodes, &f);
     default:
         return hear_after_forward(c, nodes, &f, out, room);
@@ -637,16 +636,16 @@ struct ct_answer ct_hear(struct ct_coordinator *c, struct ct_node *nodes, size_t
 
 /* ---- quiet ---- */
 
-struct ct_answer ct_quiet(struct ct_coordinator *c, struct ct_node *nodes, size_t nodes_count)
+struct ct_answer ct_quiet(ct_coordinator *c, ct_node *nodes, size_t nodes_count)
 {
     if (!is_fit(c, nodes, nodes_count))
-        return refuse(CT_STATE_UNFIT);
+        return refuse(NADRELGOS_STATE_UNFIT);
     if (!is_waiting(c))
-        return refuse(CT_NOT_WAITING);
-    struct ct_answer answer = does(CT_REST, 0);
-    if (c->stand.stage != CT_WAIT_FORWARD_ACKED) {
+        return refuse(NADRELGOS_NOT_WAITING);
+    struct ct_answer answer = does(NADRELGOS_REST, 0);
+    if (c->stand.stage != CT_STAGE_WAIT_FORWARD_ACKED) {
         size_t board = c->stand.board;
-        struct ct_node *n = &nodes[board - 1];
+        ct_node *n = &nodes[board - 1];
         if (n->misses < 2) {
             n->misses++;
         } else {
@@ -657,6 +656,6 @@ struct ct_answer ct_quiet(struct ct_coordinator *c, struct ct_node *nodes, size_
             answer.dropped = (uint8_t)board;
         }
     }
-    stand(c, CT_RESTING, 0, 0);
+    stand(c, CT_STAGE_RESTING, 0, 0);
     return answer;
 }

@@ -23,9 +23,9 @@ size_t make_frame(size_t length, uint8_t *out)
     return framed(&header, payload, length, out);
 }
 
-size_t make_ack(const struct ct_coordinator *c, const struct ct_node *nodes, size_t position, uint8_t *out)
+size_t make_ack(const ct_coordinator *c, const ct_node *nodes, size_t position, uint8_t *out)
 {
-    const struct ct_node *n = &nodes[position - 1];
+    const ct_node *n = &nodes[position - 1];
     uint8_t payload[17] = {6};
     for (int i = 0; i < 8; i++) {
         payload[1 + i] = (uint8_t)(n->mac >> 8 * i);
@@ -62,13 +62,14 @@ void make_worst(uint8_t capture[CAPTURE])
 
 void make_panel(struct panel *p, size_t boards, size_t last)
 {
-    uint8_t pool[CT_RECORDS];
+    uint8_t pool[NADRELGOS_NODES];
     memset(p, 0, sizeof *p);
-    for (size_t i = 0; i < CT_RECORDS; i++)
+    for (size_t i = 0; i < NADRELGOS_NODES; i++)
         pool[i] = (uint8_t)(16 + i);
-    ct_start(&p->coordinator, p->table.nodes, CT_RECORDS, pool, CT_RECORDS, 3, 21, 0xA1B2C3D4E5, 0x1122334455667788);
+    ct_setup(&p->coordinator, p->table.nodes, NADRELGOS_NODES, pool, NADRELGOS_NODES, 3, 21, 0xA1B2C3D4E5,
+             0x1122334455667788);
     for (size_t i = 0; i < boards; i++)
-        p->table.nodes[i] = (struct ct_node){
-            .kind = (uint8_t)(2 + i % 4), .mac = 0x00A0B0C0D0E000 + i, .session = 0x0102030405060708 + i};
+        p->table.nodes[i] =
+            (ct_node){.kind = (uint8_t)(2 + i % 4), .mac = 0x00A0B0C0D0E000 + i, .session = 0x0102030405060708 + i};
     p->coordinator.last = last;
 }

@@ -13,7 +13,7 @@ uint64_t next_random(uint64_t *seed);
 size_t make_frame(size_t length, uint8_t *out);
 
 /* The ACK of the board at a position. */
-size_t make_ack(const struct ct_coordinator *c, const struct ct_node *nodes, size_t position, uint8_t *out);
+size_t make_ack(const ct_coordinator *c, const ct_node *nodes, size_t position, uint8_t *out);
 
 /* Good frames with noise between. */
 void make_typical(uint8_t capture[CAPTURE]);
@@ -22,7 +22,7 @@ void make_typical(uint8_t capture[CAPTURE]);
 void make_worst(uint8_t capture[CAPTURE]);
 
 struct panel {
-    struct ct_coordinator coordinator;
+    struct nadrelgos_coordinator coordinator;
     struct table table;
 };
 

@@ -1,5 +1,5 @@
 /* main: checks that the proved code and the counterpart give the same, then times them side by side and prints a table.
- * main loop WHAT BOARDS TIMES: runs one step so many times, for a count of instructions. */
+ * main loop HOW EVENT BOARDS TIMES: runs one step so many times, for a count of instructions. */
 #define _POSIX_C_SOURCE 199309L
 #include "same.h"
 
@@ -24,7 +24,7 @@ struct work {
     struct panel panels[PANELS];
     uint8_t acks[PANELS][CT_FRAME];
     size_t ack_count;
-    enum event event;
+    uint8_t event;
     uint8_t out[CT_FRAME];
 };
 
@@ -61,7 +61,7 @@ static size_t read_counterpart(struct work *w, size_t times)
     size_t sum = 0;
     while (times-- > 0) {
         struct ct_frame f;
-        if (ct_read(w->bytes, w->count, &f) == CT_TAKEN)
+        if (ct_read(w->bytes, w->count, &f) == NADRELGOS_ACCEPTED)
             sum += f.header.message;
     }
     return sum;
@@ -83,7 +83,7 @@ static size_t write_counterpart(struct work *w, size_t times)
     struct ct_header header;
     memcpy(&header, w->bytes, sizeof header);
     while (times-- > 0)
-        sum += ct_write(&header, w->bytes + 10, w->count - CT_OVERHEAD, w->out, sizeof w->out) == CT_TAKEN;
+        sum += ct_write(&header, w->bytes + 10, w->count - CT_OVERHEAD, w->out, sizeof w->out) == NADRELGOS_ACCEPTED;
     return sum;
 }
 
@@ -121,9 +121,9 @@ static size_t steps_by_value(struct work *w, size_t times)
 {
     size_t sum = 0;
     for (size_t i = 0; i < times; i++) {
-        struct step_numbers r = measure_step(w->panels[i].coordinator, w->panels[i].table, (uint8_t)w->event, 0, 0, 0,
+        struct step_numbers r = measure_step(w->panels[i].coordinator, w->panels[i].table, w->event, 0, 0, 0,
                                              w->acks[i], w->ack_count, w->out, sizeof w->out);
-        sum += r.answer.answer;
+        sum += nadrelgos_answer(r.answer);
     }
     return sum;
 }
@@ -132,29 +132,28 @@ static size_t steps_counterpart(struct work *w, size_t times)
 {
     size_t sum = 0;
     for (size_t i = 0; i < times; i++)
-        sum += step_counterpart(&w->panels[i], w->event, 0, 0, 0, w->acks[i], w->ack_count, w->out, sizeof w->out).does;
+        sum += nadrelgos_answer(
+            step_counterpart(&w->panels[i], w->event, 0, 0, 0, w->acks[i], w->ack_count, w->out, sizeof w->out));
     return sum;
 }
 
-#ifdef LENT
 static size_t steps_lent(struct work *w, size_t times)
 {
     size_t sum = 0;
     for (size_t i = 0; i < times; i++)
-        sum += nadrelgos_step(&w->panels[i].coordinator, w->panels[i].table.nodes, CT_RECORDS, (uint8_t)w->event, 0, 0, 0,
-                              w->acks[i], w->ack_count, w->out, sizeof w->out) >> 8 & 255;
+        sum += nadrelgos_answer(nadrelgos_step(&w->panels[i].coordinator, w->panels[i].table.nodes, NADRELGOS_NODES,
+                                               w->event, 0, 0, 0, w->acks[i], w->ack_count, w->out, sizeof w->out));
     return sum;
 }
-#endif
 
 /* Panels that are about to offer the bus; for an event in a wait, those that have offered it. */
-static void set_panels(struct work *w, size_t boards, enum event event)
+static void set_panels(struct work *w, size_t boards, uint8_t event)
 {
     for (size_t i = 0; i < PANELS; i++) {
         struct panel *p = &w->panels[i];
         make_panel(p, boards, i * 5 % boards);
-        if (event != TURN) {
-            ct_turn(&p->coordinator, p->table.nodes, CT_RECORDS, w->out, sizeof w->out);
+        if (event != NADRELGOS_EVENT_TURN) {
+            ct_turn(&p->coordinator, p->table.nodes, NADRELGOS_NODES, w->out, sizeof w->out);
             w->ack_count = make_ack(&p->coordinator, p->table.nodes, p->coordinator.stand.board, w->acks[i]);
         }
     }
@@ -227,25 +226,18 @@ static void wire_table(struct work *w)
     row("find in 4,096 bytes, worst", w, list_proved, list_counterpart, 1, 60);
 }
 
-#ifdef LENT
-static job *const steppers[] = {steps_by_value, steps_counterpart, steps_lent};
-#else
-static job *const steppers[] = {steps_by_value, steps_counterpart};
-#endif
-enum { STEPPERS = sizeof steppers / sizeof *steppers };
+enum { BY_VALUE, LENT, COUNTERPART, STEPPERS };
+static job *const steppers[STEPPERS] = {steps_by_value, steps_lent, steps_counterpart};
 
 static const size_t board_counts[] = {1, 8, 40};
-static const enum event events[] = {TURN, FRAME, QUIET};
+static const uint8_t events[] = {NADRELGOS_EVENT_TURN, NADRELGOS_EVENT_FRAME, NADRELGOS_EVENT_QUIET};
 static const char *const event_names[] = {"turn: an offer", "frame: its ACK", "quiet: a miss"};
-static double step_times[3][3][3]; /* event, boards, stepper */
+static double step_times[3][3][STEPPERS]; /* event, boards, stepper */
 
 static void step_table(struct work *w)
 {
-    printf("\n%-34s %12s %12s %8s", "ns a step", "by value", "C -O2", "ratio");
-#ifdef LENT
-    printf(" %12s %8s %14s", "lent", "ratio", "lent/by value");
-#endif
-    printf("\n");
+    printf("\n%-28s %9s %9s %9s %11s %7s %14s\n", "ns a step", "by value", "lent", "C -O2", "by value/C", "lent/C",
+           "lent/by value");
     for (size_t e = 0; e < 3; e++)
         for (size_t b = 0; b < 3; b++) {
             double *best = step_times[e][b];
@@ -253,10 +245,8 @@ static void step_table(struct work *w)
             set_panels(w, board_counts[b], events[e]);
             race(w, steppers, STEPPERS, PANELS, 4000, best);
             snprintf(name, sizeof name, "%s, %zu board%s", event_names[e], board_counts[b], b ? "s" : "");
-            printf("%-34s %12.1f %12.1f %8.2f", name, best[0], best[1], best[0] / best[1]);
-            if (STEPPERS == 3)
-                printf(" %12.1f %8.2f %14.2f", best[2], best[2] / best[1], best[2] / best[0]);
-            printf("\n");
+            printf("%-28s %9.1f %9.1f %9.1f %11.2f %7.2f %14.2f\n", name, best[BY_VALUE], best[LENT], best[COUNTERPART],
+                   best[BY_VALUE] / best[COUNTERPART], best[LENT] / best[COUNTERPART], best[LENT] / best[BY_VALUE]);
         }
 }
 
@@ -291,14 +281,14 @@ static void growth_table(struct work *w)
         growth_row(worst ? "find, worst, C" : "find all, typical, C", times[1], 4);
     }
     printf("\n%-34s %10s %10s %18s\n", "growth: ns over boards", "1", "8", "40");
-    static const char *const steppers_names[] = {"by value", "C", "lent"};
+    static const char *const stepper_names[STEPPERS] = {"by value", "lent", "C"};
     for (size_t e = 0; e < 3; e++)
         for (size_t j = 0; j < STEPPERS; j++) {
             char name[64];
             double times[3];
             for (size_t b = 0; b < 3; b++)
                 times[b] = step_times[e][b][j];
-            snprintf(name, sizeof name, "%s, %s", event_names[e], steppers_names[j]);
+            snprintf(name, sizeof name, "%s, %s", event_names[e], stepper_names[j]);
             growth_row(name, times, 3);
         }
 }
@@ -308,18 +298,19 @@ static void growth_table(struct work *w)
 static int loop(const char *what, const char *event, size_t boards, size_t times)
 {
     static struct work w;
-    static const char *const names[] = {"by-value", "counterpart", "lent"};
+    static const char *const names[STEPPERS] = {"by-value", "lent", "counterpart"};
     static const char *const event_words[] = {"turn", "frame", "quiet"};
     for (size_t e = 0; e < 3; e++)
         for (size_t j = 0; j < STEPPERS; j++)
-            if (strcmp(what, names[j]) == 0 && strcmp(event, event_words[e]) == 0 && boards >= 1 && boards <= CT_RECORDS) {
+            if (strcmp(what, names[j]) == 0 && strcmp(event, event_words[e]) == 0 && boards >= 1 &&
+                boards <= NADRELGOS_NODES) {
                 while (times-- > 0) {
                     set_panels(&w, boards, events[e]);
                     sink += steppers[j](&w, 1);
                 }
                 return 0;
             }
-    fprintf(stderr, "usage: main [loop by-value|counterpart|lent turn|frame|quiet BOARDS TIMES]\n");
+    fprintf(stderr, "usage: main [loop by-value|lent|counterpart turn|frame|quiet BOARDS TIMES]\n");
     return 2;
 }
 

@@ -5,76 +5,63 @@
 
 /* ---- the three panels behind one face ---- */
 
-struct ct_answer step_counterpart(struct panel *p, enum event event, uint8_t kind, uint64_t mac, uint64_t session,
-                                  const uint8_t *received, size_t count, uint8_t *out, size_t room)
+uint64_t step_counterpart(struct panel *p, uint8_t event, uint8_t kind, uint64_t mac, uint64_t session,
+                          const uint8_t *received, size_t count, uint8_t *out, size_t room)
 {
-    struct ct_coordinator *c = &p->coordinator;
-    struct ct_node *nodes = p->table.nodes;
+    ct_coordinator *c = &p->coordinator;
+    ct_node *nodes = p->table.nodes;
+    struct ct_answer answer;
     switch (event) {
-    case TURN:
-        return ct_turn(c, nodes, CT_RECORDS, out, room);
-    case FRAME:
-        return ct_hear(c, nodes, CT_RECORDS, received, count, out, room);
-    case QUIET:
-        return ct_quiet(c, nodes, CT_RECORDS);
+    case NADRELGOS_EVENT_TURN:
+        answer = ct_turn(c, nodes, NADRELGOS_NODES, out, room);
+        break;
+    case NADRELGOS_EVENT_FRAME:
+        answer = ct_hear(c, nodes, NADRELGOS_NODES, received, count, out, room);
+        break;
+    case NADRELGOS_EVENT_QUIET:
+        answer = ct_quiet(c, nodes, NADRELGOS_NODES);
+        break;
     default:
-        return ct_join(c, nodes, CT_RECORDS, kind, mac, session);
+        answer = ct_join(c, nodes, NADRELGOS_NODES, kind, mac, session);
+        break;
     }
+    uint64_t packed;
+    memcpy(&packed, &answer, sizeof packed); /* the counterpart's answer has the order of the packed one */
+    return packed;
 }
 
-struct ct_answer step_by_value(struct panel *p, enum event event, uint8_t kind, uint64_t mac, uint64_t session,
-                               const uint8_t *received, size_t count, uint8_t *out, size_t room)
+uint64_t step_by_value(struct panel *p, uint8_t event, uint8_t kind, uint64_t mac, uint64_t session,
+                       const uint8_t *received, size_t count, uint8_t *out, size_t room)
 {
-    struct step_numbers r = measure_step(p->coordinator, p->table, (uint8_t)event, kind, mac, session, received, count,
-                                         out, room);
+    struct step_numbers r =
+        measure_step(p->coordinator, p->table, event, kind, mac, session, received, count, out, room);
     p->coordinator = r.coordinator;
     p->table = r.table;
-    return (struct ct_answer){.refusal = r.answer.refusal,
-                              .does = r.answer.answer,
-                              .board = (uint8_t)r.answer.board,
-                              .exchange = r.answer.exchange,
-                              .joined = (uint8_t)r.joined,
-                              .dropped = (uint8_t)r.dropped,
-                              .written = (uint16_t)r.written};
+    return r.answer;
 }
 
-#ifdef LENT
-struct ct_answer step_lent(struct panel *p, enum event event, uint8_t kind, uint64_t mac, uint64_t session,
-                           const uint8_t *received, size_t count, uint8_t *out, size_t room)
+uint64_t step_lent(struct panel *p, uint8_t event, uint8_t kind, uint64_t mac, uint64_t session,
+                   const uint8_t *received, size_t count, uint8_t *out, size_t room)
 {
-    uint64_t r = nadrelgos_step(&p->coordinator, p->table.nodes, CT_RECORDS, (uint8_t)event, kind, mac, session,
-                                received, count, out, room);
-    return (struct ct_answer){.refusal = (uint8_t)r,
-                              .does = (uint8_t)(r >> 8),
-                              .board = (uint8_t)(r >> 16),
-                              .exchange = (uint8_t)(r >> 24),
-                              .joined = (uint8_t)(r >> 32),
-                              .dropped = (uint8_t)(r >> 40),
-                              .written = (uint16_t)(r >> 48)};
+    return nadrelgos_step(&p->coordinator, p->table.nodes, NADRELGOS_NODES, event, kind, mac, session, received, count,
+                          out, room);
 }
-#endif
 
 /* ---- field by field: padding has no meaning ---- */
 
-static bool same_answer(struct ct_answer a, struct ct_answer b)
-{
-    return a.refusal == b.refusal && a.does == b.does && a.board == b.board && a.exchange == b.exchange &&
-           a.joined == b.joined && a.dropped == b.dropped && a.written == b.written;
-}
-
-static bool same_node(const struct ct_node *a, const struct ct_node *b)
+static bool same_node(const ct_node *a, const ct_node *b)
 {
     return a->kind == b->kind && a->mac == b->mac && a->session == b->session && a->misses == b->misses &&
            a->owed == b->owed;
 }
 
-static bool same_setup(const struct ct_setup *a, const struct ct_setup *b)
+static bool same_setup(const struct nadrelgos_settings *a, const struct nadrelgos_settings *b)
 {
     return memcmp(a->pool, b->pool, sizeof a->pool) == 0 && a->k == b->k && a->subnet == b->subnet &&
            a->internal == b->internal && a->mac == b->mac && a->session == b->session;
 }
 
-static bool same_kept(const struct ct_kept *a, const struct ct_kept *b)
+static bool same_kept(const struct nadrelgos_kept *a, const struct nadrelgos_kept *b)
 {
     return a->message == b->message && a->packet == b->packet && a->kind == b->kind && a->method == b->method &&
            a->parameter == b->parameter && a->length == b->length &&
@@ -83,8 +70,8 @@ static bool same_kept(const struct ct_kept *a, const struct ct_kept *b)
 
 static bool same_panel(const struct panel *a, const struct panel *b)
 {
-    const struct ct_coordinator *c = &a->coordinator, *d = &b->coordinator;
-    for (size_t i = 0; i < CT_RECORDS; i++)
+    const ct_coordinator *c = &a->coordinator, *d = &b->coordinator;
+    for (size_t i = 0; i < NADRELGOS_NODES; i++)
         if (!same_node(&a->table.nodes[i], &b->table.nodes[i]))
             return false;
     return same_setup(&c->setup, &d->setup) && c->last == d->last && c->held == d->held &&
@@ -98,7 +85,7 @@ static bool same_reading(const uint8_t *bytes, size_t count)
 {
     struct read_numbers r = measure_read(bytes, count);
     struct ct_frame f = {.length = 0};
-    enum ct_refusal refusal = ct_read(bytes, count, &f);
+    ct_refusal refusal = ct_read(bytes, count, &f);
     return r.refusal == refusal && r.length == f.length && memcmp(&r.fields, &f.header, sizeof f.header) == 0 &&
            measure_good(bytes, count) == ct_good(bytes, count);
 }
@@ -111,7 +98,7 @@ static bool same_writing(const uint8_t *bytes, size_t length, size_t room)
     struct ct_header header;
     memcpy(&header, bytes, sizeof header);
     struct write_numbers w = measure_write(header, bytes + 10, length, a, room);
-    enum ct_refusal refusal = ct_write(&header, bytes + 10, length, b, room);
+    ct_refusal refusal = ct_write(&header, bytes + 10, length, b, room);
     return w.refusal == refusal && w.written == (refusal ? 0 : CT_OVERHEAD + length) && memcmp(a, b, sizeof a) == 0;
 }
 
@@ -128,7 +115,8 @@ static bool same_wire(void)
     uint64_t seed = 2;
     for (size_t length = 0; length <= CT_PAYLOAD; length++) {
         size_t count = make_frame(length, frame);
-        if (!same_reading(frame, count) || !same_writing(frame, length, CT_FRAME) || !same_writing(frame, length, count - 1))
+        if (!same_reading(frame, count) || !same_writing(frame, length, CT_FRAME) ||
+            !same_writing(frame, length, count - 1))
             return false;
         frame[next_random(&seed) % count] ^= 1;
         if (!same_reading(frame, count) || !same_reading(frame, count - 1))
@@ -145,31 +133,31 @@ static bool same_wire(void)
 /* ---- steps ---- */
 
 /* The same step on both; what they leave must be the same. */
-static bool same_step(struct panel *ours, struct panel *theirs, step_function *step, enum event event, uint8_t kind,
+static bool same_step(struct panel *ours, struct panel *theirs, step_function *step, uint8_t event, uint8_t kind,
                       uint64_t mac, uint64_t session, const uint8_t *received, size_t count, size_t room)
 {
     uint8_t a[CT_FRAME + 8], b[CT_FRAME + 8];
     memset(a, 0xEE, sizeof a);
     memset(b, 0xEE, sizeof b);
-    struct ct_answer x = step(ours, event, kind, mac, session, received, count, a, room);
-    struct ct_answer y = step_counterpart(theirs, event, kind, mac, session, received, count, b, room);
-    return same_answer(x, y) && memcmp(a, b, sizeof a) == 0 && same_panel(ours, theirs);
+    uint64_t x = step(ours, event, kind, mac, session, received, count, a, room);
+    uint64_t y = step_counterpart(theirs, event, kind, mac, session, received, count, b, room);
+    return x == y && memcmp(a, b, sizeof a) == 0 && same_panel(ours, theirs);
 }
 
 /* A frame that the wait may take, or nearly. */
 static size_t random_frame(const struct panel *p, uint64_t *seed, uint8_t *out)
 {
-    const struct ct_coordinator *c = &p->coordinator;
-    const struct ct_node *nodes = p->table.nodes;
+    const ct_coordinator *c = &p->coordinator;
+    const ct_node *nodes = p->table.nodes;
     size_t board = c->stand.board;
-    if (board < 1 || board > CT_RECORDS)
+    if (board < 1 || board > NADRELGOS_NODES)
         return make_frame(next_random(seed) % (CT_PAYLOAD + 1), out);
-    struct ct_node n = nodes[board - 1];
+    ct_node n = nodes[board - 1];
     if (next_random(seed) % 16 == 0)
         n.mac++;
     if (next_random(seed) % 16 == 0)
         n.session++;
-    struct ct_node one[CT_RECORDS];
+    ct_node one[NADRELGOS_NODES];
     memcpy(one, nodes, sizeof one);
     one[board - 1] = n;
     size_t count;
@@ -188,17 +176,17 @@ static size_t random_frame(const struct panel *p, uint64_t *seed, uint8_t *out)
                                    .kind = n.kind,
                                    .message = (uint8_t)(1 + next_random(seed) % 130),
                                    .packet = 9};
-        if (c->stand.stage == CT_WAIT_LIST) {
+        if (c->stand.stage == CT_STAGE_WAIT_LIST) {
             header.message = 0x94;
             length = 1;
-            for (size_t i = 0; i < CT_RECORDS; i++) {
+            for (size_t i = 0; i < NADRELGOS_NODES; i++) {
                 payload[1 + i] = nodes[i].kind;
                 if (nodes[i].kind)
                     length = i + 2;
             }
             if (next_random(seed) % 8 == 0)
                 payload[length - 1]++;
-        } else if (c->stand.stage == CT_WAIT_FORWARD || c->stand.stage == CT_WAIT_FORWARD_ACKED) {
+        } else if (c->stand.stage == CT_STAGE_WAIT_FORWARD || c->stand.stage == CT_STAGE_WAIT_FORWARD_ACKED) {
             header.message = (uint8_t)(c->kept.message + 128);
         }
         if (next_random(seed) % 16 == 0)
@@ -217,7 +205,8 @@ static size_t random_frame(const struct panel *p, uint64_t *seed, uint8_t *out)
 static void spoil(struct panel *p, uint64_t *seed)
 {
     if (next_random(seed) % 2)
-        ((uint8_t *)&p->coordinator)[next_random(seed) % sizeof p->coordinator] ^= (uint8_t)(1 << next_random(seed) % 8);
+        ((uint8_t *)&p->coordinator)[next_random(seed) % sizeof p->coordinator] ^=
+            (uint8_t)(1 << next_random(seed) % 8);
     else
         ((uint8_t *)&p->table)[next_random(seed) % sizeof p->table] ^= (uint8_t)(1 << next_random(seed) % 8);
 }
@@ -232,8 +221,11 @@ static bool same_play(step_function *step, size_t boards, size_t steps)
         uint8_t received[CT_FRAME + 1];
         size_t count = random_frame(&theirs, &seed, received);
         size_t room = next_random(&seed) % 16 ? CT_FRAME : next_random(&seed) % CT_FRAME;
-        uint64_t pick = next_random(&seed) % 16, board = next_random(&seed) % (CT_RECORDS + 4);
-        enum event event = pick < 6 ? TURN : pick < 13 ? FRAME : pick < 14 ? QUIET : JOIN;
+        uint64_t pick = next_random(&seed) % 16, board = next_random(&seed) % (NADRELGOS_NODES + 4);
+        uint8_t event = pick < 6    ? NADRELGOS_EVENT_TURN
+                        : pick < 13 ? NADRELGOS_EVENT_FRAME
+                        : pick < 14 ? NADRELGOS_EVENT_QUIET
+                                    : NADRELGOS_EVENT_JOIN;
         if (next_random(&seed) % 8 == 0) {
             struct panel spoilt = theirs;
             spoil(&spoilt, &seed);
@@ -256,14 +248,17 @@ static bool same_round(step_function *step, size_t boards)
         struct panel ours, theirs, waiting;
         make_panel(&theirs, boards, last);
         ours = theirs;
-        if (!same_step(&ours, &theirs, step, TURN, 0, 0, 0, ack, 0, CT_FRAME) || theirs.coordinator.stand.stage != CT_WAIT_OFFER)
+        if (!same_step(&ours, &theirs, step, NADRELGOS_EVENT_TURN, 0, 0, 0, ack, 0, CT_FRAME) ||
+            theirs.coordinator.stand.stage != CT_STAGE_WAIT_OFFER)
             return false;
         waiting = theirs;
         size_t count = make_ack(&theirs.coordinator, theirs.table.nodes, theirs.coordinator.stand.board, ack);
-        if (!same_step(&ours, &theirs, step, FRAME, 0, 0, 0, ack, count, CT_FRAME) || theirs.coordinator.stand.stage != CT_RESTING)
+        if (!same_step(&ours, &theirs, step, NADRELGOS_EVENT_FRAME, 0, 0, 0, ack, count, CT_FRAME) ||
+            theirs.coordinator.stand.stage != CT_STAGE_RESTING)
             return false;
         ours = theirs = waiting;
-        if (!same_step(&ours, &theirs, step, QUIET, 0, 0, 0, ack, 0, CT_FRAME) || theirs.coordinator.stand.stage != CT_RESTING)
+        if (!same_step(&ours, &theirs, step, NADRELGOS_EVENT_QUIET, 0, 0, 0, ack, 0, CT_FRAME) ||
+            theirs.coordinator.stand.stage != CT_STAGE_RESTING)
             return false;
     }
     return true;
@@ -287,9 +282,6 @@ static bool same_steps(const char *what, step_function *step)
 
 bool all_same(void)
 {
-    bool same = said("checksum, read, write, find", same_wire()) && same_steps("step by value", step_by_value);
-#ifdef LENT
-    same = same && same_steps("lent step", step_lent);
-#endif
-    return same;
+    return said("checksum, read, write, find", same_wire()) && same_steps("step by value", step_by_value) &&
+           same_steps("lent step", step_lent);
 }

@@ -4,14 +4,10 @@
 
 #include "inputs.h"
 
-/* One step of each, in place: by value, lent, counterpart. */
-typedef struct ct_answer step_function(struct panel *p, enum event event, uint8_t kind, uint64_t mac, uint64_t session,
-                                       const uint8_t *received, size_t count, uint8_t *out, size_t room);
-step_function step_by_value;
-step_function step_counterpart;
-#ifdef LENT
-step_function step_lent;
-#endif
+/* One step on a panel, in place; the answer is packed as the panel's face packs it. */
+typedef uint64_t step_function(struct panel *p, uint8_t event, uint8_t kind, uint64_t mac, uint64_t session,
+                               const uint8_t *received, size_t count, uint8_t *out, size_t room);
+step_function step_by_value, step_lent, step_counterpart;
 
 /* Compares all that is timed, and a long random play; says where they differ. */
 bool all_same(void);

@@ -6,6 +6,7 @@ use Prim.Native.Nat.{ℕ}
 use denote.Ref.{RefT, now}
 use Rattle.board.specs.declared.Table.{Table}
 use Rattle.coordinator.specs.declared.Coordinator.{Coordinator}
+use Rattle.lent.specs.Numbers.{facing}
 use Rattle.measure.specs.declared.Fields.{Fields}
 use Rattle.measure.specs.declared.ReadNumbers.{ReadNumbers}
 use Rattle.measure.specs.declared.WriteNumbers.{WriteNumbers}
@@ -33,6 +34,10 @@ unique-measure-write κs a s t r q p p′ = (p .0 ∙ sym (p′ .0), p .1 ∙ sy
 pub unique-measure-find : (κs a s t : _) (r q : FindNumbers) → find.Post κs a r s → find.Post κs a q t → r ≡ q
 unique-measure-find κs a s t r q p p′ = p ∙ sym p′
 
+-- a step that faces C with the same is the same
+same-faced : (r q : StepNumbers) → facing (r .answer) (r .coordinator) (r .table .nodes) ≡ facing (q .answer) (q .coordinator) (q .table .nodes) → r ≡ q
+same-faced r q e = λ i. record { coordinator = e i .coordinator; table = record { nodes = e i .nodes }; answer = e i .answer }
+
 -- what is passed to the step, and the same at its exit
 abbrev Args : Type 0
 Args = Coordinator × (Table × (ℕ × (ℕ × (ℕ × (ℕ × (RefT (List ℕ) × (RefT (List ℕ) × Unit {0})))))))
@@ -41,4 +46,4 @@ abbrev output : Args → List ℕ
 output a = now (a .1 .1 .1 .1 .1 .1 .1 .0)
 
 pub unique-measure-step : (κs : _) (a s t : Args) (r q : StepNumbers) → step.Post κs a r s → step.Post κs a q t → (r ≡ q) × (output s ≡ output t)
-unique-measure-step κs a s t r q p p′ = (p .0 ∙ sym (p′ .0), p .1 ∙ sym (p′ .1))
+unique-measure-step κs a s t r q p p′ = (same-faced r q (p .0 ∙ sym (p′ .0)), p .1 ∙ sym (p′ .1))

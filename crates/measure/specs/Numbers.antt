@@ -5,15 +5,10 @@ use lib.Dec.{eqb}
 use Rattle.ground.specs.Choose.{choose}
 use Rattle.refusal.specs.Refusal.{Told}
 use Rattle.frame.specs.declared.Header.{Header}
-use Rattle.steps.specs.declared.Event.{Event}
-use Rattle.steps.specs.declared.Event.the-variants.{Join, Turn, Frame, Quiet}
-use Rattle.steps.specs.After.{Shown}
 use Rattle.measure.specs.declared.Fields.{Fields}
 use Rattle.measure.specs.declared.ReadNumbers.{ReadNumbers}
 use Rattle.measure.specs.declared.WriteNumbers.{WriteNumbers}
 use Rattle.measure.specs.declared.FindNumbers.{FindNumbers}
-use Rattle.measure.specs.declared.AnswerNumbers.{AnswerNumbers}
-use Rattle.measure.specs.declared.StepNumbers.{StepNumbers}
 
 -- the value at a place of what is said
 abbrev pub value : Told → ℕ → ℕ
@@ -60,23 +55,3 @@ findNumbers t =
     choose (eqb (t .number) 1)
     (record { number = t .number; start = value t 0; length = value t 1; tried = value t 2 })
     (record { number = t .number; start = 0; length = 0; tried = value t 0 })
-
--- the events by their numbers: 1 join, 2 turn, 3 frame, 4 quiet; any other is a join of type 0, which is always refused
-unfoldable pub eventOf : ℕ → ℕ → ℕ → ℕ → Event
-eventOf event kind mac session =
-    choose (eqb event 1) (Join kind mac session)
-    (choose (eqb event 2) Turn (choose (eqb event 3) Frame (choose (eqb event 4) Quiet (Join 0 mac session))))
-
-abbrev pub answerNumbers : Told → AnswerNumbers
-answerNumbers t = record { refusal = t .number; answer = value t 0; exchange = value t 2; board = value t 1 }
-
-abbrev pub stepNumbers : Shown → StepNumbers
-stepNumbers s =
-    record {
-      coordinator = s .coordinator;
-      table = record { nodes = s .nodes };
-      answer = answerNumbers (s .says);
-      written = s .written;
-      joined = s .joined;
-      dropped = s .dropped;
-    }

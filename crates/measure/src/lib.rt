@@ -1,22 +1,19 @@
 // What the benchmark calls: the proved functions for C, each with its answer as plain numbers.
 use board::Table;
 use coordinator::Coordinator;
-use coordinator::Exchange;
 use finder::Finding;
 use frame::Header;
 use frame::Reading;
 use frame::Writing;
-use steps::Answer;
-use steps::Event;
 ghost use mathlib.Core.Path.{_≡_};
 ghost use lib.ListN.{length};
 ghost use Rattle.ground.specs.Bytes.{laid};
 ghost use Rattle.fletcher.specs.Fletcher.{isGood};
 ghost use Rattle.frame.specs.Frame.{reading, writing, writtenBytes};
 ghost use Rattle.finder.specs.Finder.{finding};
-ghost use Rattle.steps.specs.After.{exchangeNumber, told, shows};
 ghost use Rattle.steps.specs.Step.{stepOf};
-ghost use Rattle.measure.specs.Numbers.{headerFrom, readNumbers, writeNumbers, findNumbers, eventOf, answerNumbers, stepNumbers};
+ghost use Rattle.lent.specs.Numbers.{eventOf, facing, faced};
+ghost use Rattle.measure.specs.Numbers.{headerFrom, readNumbers, writeNumbers, findNumbers};
 
 // A header.
 #[repr(C)]
@@ -56,25 +53,12 @@ pub struct FindNumbers {
     pub tried: usize,
 }
 
-// An answer: the refusal's number or 0; then 1 for Wait, with the board and the exchange, 2 for Deliver, 3 for Transmit,
-// 4 for Rest.
-#[repr(C)]
-pub struct AnswerNumbers {
-    pub refusal: u8,
-    pub answer: u8,
-    pub exchange: u8,
-    pub board: usize,
-}
-
-// A step.
+// A step: what it leaves, and its answer as the panel's face for C packs it.
 #[repr(C)]
 pub struct StepNumbers {
     pub coordinator: Coordinator,
     pub table: Table,
-    pub answer: AnswerNumbers,
-    pub written: usize,
-    pub joined: usize,
-    pub dropped: usize,
+    pub answer: u64,
 }
 
 // Whether bytes are good.
@@ -194,67 +178,7 @@ pub extern "C" fn measure_find(bytes: &[u8], budget: usize) -> FindNumbers
     }
 }
 
-// The event of a number, as the panel's face for C has it: any other number is a join of type 0.
-fn event_of(event: u8, kind: u8, mac: u64, session: u64) -> Event
-    ensures { λ r. ⌜ r ≡ eventOf event kind mac session ⌝ }
-{
-    match event {
-        1 => Event::Join {
-            kind: kind,
-            mac: mac,
-            session: session,
-        },
-        2 => Event::Turn,
-        3 => Event::Frame,
-        4 => Event::Quiet,
-        _ => Event::Join {
-            kind: 0,
-            mac: mac,
-            session: session,
-        },
-    }
-}
-
-fn exchange_number(exchange: Exchange) -> u8
-    ensures { λ r. ⌜ r ≡ exchangeNumber exchange ⌝ }
-{
-    match exchange {
-        Exchange::Offer => 1,
-        Exchange::List => 2,
-        Exchange::Forward => 3,
-        Exchange::Return => 4,
-    }
-}
-
-fn plain(refusal: u8, answer: u8) -> AnswerNumbers
-    ensures { λ r. ⌜ r ≡ record { refusal = refusal; answer = answer; exchange = 0; board = 0 } ⌝ }
-{
-    AnswerNumbers {
-        refusal: refusal,
-        answer: answer,
-        exchange: 0,
-        board: 0,
-    }
-}
-
-fn answer_numbers(answer: Answer) -> AnswerNumbers
-    ensures { λ r. ⌜ r ≡ answerNumbers (told answer) ⌝ }
-{
-    match answer {
-        Answer::Wait(board, exchange) => AnswerNumbers {
-            refusal: 0,
-            answer: 1,
-            exchange: exchange_number(exchange),
-            board: board,
-        },
-        Answer::Deliver => plain(0, 2),
-        Answer::Transmit => plain(0, 3),
-        Answer::Rest => plain(0, 4),
-        Answer::Refuse(refusal) => plain(refusal::number(refusal), 0),
-    }
-}
-
-// One step, by value.
+// One step by value. The panel's face does the same on records where they stand.
 #[no_mangle]
 pub extern "C" fn measure_step(
     coordinator: Coordinator,
@@ -266,20 +190,16 @@ pub extern "C" fn measure_step(
     received: &[u8],
     out: &mut [u8],
 ) -> StepNumbers
-    ensures { λ r. ⌜ (r ≡ stepNumbers (shows (stepOf coordinator (table .nodes) (eventOf event kind mac session) (now (received .entry)) (length (now (out .entry)))))) × (now (out .exit) ≡ laid (stepOf coordinator (table .nodes) (eventOf event kind mac session) (now (received .entry)) (length (now (out .entry))) .bytes) (now (out .entry))) ⌝ }
+    ensures { λ r. ⌜ (facing (r .answer) (r .coordinator) (r .table .nodes) ≡ faced (stepOf coordinator (table .nodes) (eventOf event kind mac session) (now (received .entry)) (length (now (out .entry))))) × (now (out .exit) ≡ laid (stepOf coordinator (table .nodes) (eventOf event kind mac session) (now (received .entry)) (length (now (out .entry))) .bytes) (now (out .entry))) ⌝ }
 {
-    let happened = event_of(event, kind, mac, session);
+    let happened = lent::event_of(event, kind, mac, session);
     let stepped = stepping::step(coordinator, table, happened, received, out);
     let after = stepped.coordinator;
     let nodes = stepped.table;
     let outcome = stepped.outcome;
-    let answer = outcome.answer;
     StepNumbers {
         coordinator: after,
         table: nodes,
-        answer: answer_numbers(answer),
-        written: outcome.written,
-        joined: outcome.joined,
-        dropped: outcome.dropped,
+        answer: lent::pack(outcome),
     }
 }

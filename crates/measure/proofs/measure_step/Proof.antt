@@ -1,6 +1,6 @@
--- `measure::measure_step` meets its contract: its numbers are those of what `step` shows.
-use mathlib.Core.Path.{ap}
-use Rattle.measure.specs.Numbers.{stepNumbers}
+-- `measure::measure_step` meets its contract: what it gives is what `step` shows, packed.
+use denote.Ref.{now}
+use Rattle.lent.proofs.Faces.{step-faced}
 use borrow.Author.Needs.{needs}
 use Rattle.measure.proofs.measure_step.Statement.{statement}
 use Rattle.measure.proofs.measure_step.Tie as tie
@@ -11,19 +11,21 @@ event-of-requires c κs = search needs
 step-requires : tie.Need-step-requires
 step-requires c κs = search needs
 
-answer-numbers-requires : tie.Need-answer-numbers-requires
-answer-numbers-requires c κs = search needs
+pack-requires : tie.Need-pack-requires
+pack-requires c κs = search needs
 
 same-length : tie.Need-same-length
 same-length c = search needs
 
 returns : tie.Need-returns
-returns c = (
-  rw (c .answer-numbers .ensures, ← c .before .before .before .before .before .before .before .before .event-of .ensures) (ap stepNumbers (c .before .before .before .before .before .before .step .ensures .0)),
-  rw (c .before .before .before .before .before .before .before .before .event-of .ensures) at (c .before .before .before .before .before .before .step .ensures .1),
-)
+returns c =
+    let args = c .before .before .before .before .before .before .before .before .before .before .before .args in
+    let happened = c .before .before .before .before .before .before .before .before .event-of in
+    let stepped = c .before .before .before .before .before .before .step in
+    step-faced (stepped .result .outcome) (args .coordinator) (stepped .result .coordinator) (args .table .nodes) (stepped .result .table .nodes) (happened .result) _ (now (args .received)) (now (args .out)) _ (c .pack .result)
+    (happened .ensures)
+    (stepped .ensures)
+    (c .pack .ensures)
 
 pub measure-step-spec : {M : Type 1} → statement M
-measure-step-spec =
-    tie.close
-    (tie.spec event-of-requires step-requires answer-numbers-requires same-length returns)
+measure-step-spec = tie.close (tie.spec event-of-requires step-requires pack-requires same-length returns)
