@@ -5,6 +5,14 @@
 
 /* ---- the three panels behind one face ---- */
 
+/* The counterpart's answer has the order of the packed one. */
+static uint64_t packed(struct ct_answer answer)
+{
+    uint64_t number;
+    memcpy(&number, &answer, sizeof number);
+    return number;
+}
+
 uint64_t step_counterpart(struct panel *p, uint8_t event, uint8_t kind, uint64_t mac, uint64_t session,
                           const uint8_t *received, size_t count, uint8_t *out, size_t room)
 {
@@ -25,9 +33,7 @@ uint64_t step_counterpart(struct panel *p, uint8_t event, uint8_t kind, uint64_t
         answer = ct_join(c, nodes, NADRELGOS_NODES, kind, mac, session);
         break;
     }
-    uint64_t packed;
-    memcpy(&packed, &answer, sizeof packed); /* the counterpart's answer has the order of the packed one */
-    return packed;
+    return packed(answer);
 }
 
 uint64_t step_by_value(struct panel *p, uint8_t event, uint8_t kind, uint64_t mac, uint64_t session,
@@ -264,6 +270,58 @@ static bool same_round(step_function *step, size_t boards)
     return true;
 }
 
+static const uint8_t nothing[1];
+
+/* What a play does not come to by chance: nobody listed, a full table, a board that leaves while joins are held. */
+static bool same_corners(step_function *step)
+{
+    struct panel ours, theirs;
+    make_panel(&theirs, NADRELGOS_NODES, 0);
+    ours = theirs;
+    if (!same_step(&ours, &theirs, step, NADRELGOS_EVENT_JOIN, 2, 1, 1, nothing, 0, 0) ||
+        !same_step(&ours, &theirs, step, NADRELGOS_EVENT_JOIN, 2, 0, 1, nothing, 0, 0))
+        return false;
+    make_panel(&theirs, 0, 0);
+    ours = theirs;
+    if (!same_step(&ours, &theirs, step, NADRELGOS_EVENT_TURN, 0, 0, 0, nothing, 0, CT_FRAME) ||
+        !same_step(&ours, &theirs, step, NADRELGOS_EVENT_JOIN, 2, 1, 1, nothing, 0, 0))
+        return false;
+    for (int i = 0; i < 3; i++) {
+        theirs.table.nodes[0].owed = ours.table.nodes[0].owed = 1;
+        if (!same_step(&ours, &theirs, step, NADRELGOS_EVENT_TURN, 0, 0, 0, nothing, 0, CT_FRAME) ||
+            !same_step(&ours, &theirs, step, NADRELGOS_EVENT_QUIET, 0, 0, 0, nothing, 0, 0))
+            return false;
+    }
+    return theirs.table.nodes[0].kind == 0 && theirs.coordinator.held == 0;
+}
+
+static bool same_setup_of(const uint8_t *pool, size_t k, size_t nodes_count, uint64_t mac)
+{
+    struct panel ours, theirs;
+    make_panel(&theirs, 8, 3);
+    ours = theirs;
+    struct ct_answer answer = ct_setup(&theirs.coordinator, theirs.table.nodes, nodes_count, pool, k, 1, 2, mac, 3);
+    return nadrelgos_setup(&ours.coordinator, ours.table.nodes, nodes_count, pool, k, 1, 2, mac, 3) == packed(answer) &&
+           same_panel(&ours, &theirs);
+}
+
+static bool same_setups(void)
+{
+    uint8_t pool[NADRELGOS_NODES + 1];
+    for (size_t i = 0; i <= NADRELGOS_NODES; i++)
+        pool[i] = (uint8_t)(3 * i + 1);
+    bool same = true;
+    for (size_t k = 0; k <= NADRELGOS_NODES + 1; k++)
+        same = same && same_setup_of(pool, k, NADRELGOS_NODES, 1) && same_setup_of(pool, k, NADRELGOS_NODES, 0) &&
+               same_setup_of(pool, k, 39, 1);
+    pool[7] = pool[6];
+    same = same && same_setup_of(pool, 8, NADRELGOS_NODES, 1);
+    pool[0] = 0;
+    same = same && same_setup_of(pool, 1, NADRELGOS_NODES, 1);
+    pool[0] = 255;
+    return same && same_setup_of(pool, 1, NADRELGOS_NODES, 1);
+}
+
 static bool said(const char *what, bool same)
 {
     if (!same)
@@ -277,11 +335,11 @@ static bool same_steps(const char *what, step_function *step)
     for (size_t i = 0; i < 3; i++)
         if (!said(what, same_round(step, boards[i]) && same_play(step, boards[i], 20000)))
             return false;
-    return true;
+    return said(what, same_corners(step));
 }
 
 bool all_same(void)
 {
     return said("checksum, read, write, find", same_wire()) && same_steps("step by value", step_by_value) &&
-           same_steps("lent step", step_lent);
+           same_steps("lent step", step_lent) && said("setup", same_setups());
 }
