@@ -253,6 +253,18 @@ enum nadrelgos_change_number {
 uint64_t nadrelgos_amend(struct nadrelgos_node *nodes, size_t nodes_count, uint8_t change, size_t position,
                          uint8_t kind, uint64_t mac, uint64_t session);
 
+/* The same, each change by its name. `nodes` are NADRELGOS_NODES records. */
+static inline uint64_t nadrelgos_list(struct nadrelgos_node *nodes, size_t position, uint8_t kind, uint64_t mac,
+                                      uint64_t session) {
+    return nadrelgos_amend(nodes, NADRELGOS_NODES, NADRELGOS_CHANGE_LIST, position, kind, mac, session);
+}
+static inline uint64_t nadrelgos_clear(struct nadrelgos_node *nodes, size_t position) {
+    return nadrelgos_amend(nodes, NADRELGOS_NODES, NADRELGOS_CHANGE_CLEAR, position, 0, 0, 0);
+}
+static inline uint64_t nadrelgos_mark(struct nadrelgos_node *nodes, size_t position) {
+    return nadrelgos_amend(nodes, NADRELGOS_NODES, NADRELGOS_CHANGE_MARK, position, 0, 0, 0);
+}
+
 /*
  * The parts of an answer, low byte first: the refusal's number, the answer, the board awaited, its exchange, the
  * position joined, the position dropped, and in two bytes the count of bytes written. Positions are 1 to k, 0 for none.

@@ -20,7 +20,19 @@ pub fn capture(seed: u64, index: u64) -> Vec<u8> {
         5 => frame_ending_at(&mut rng, INPUT_LIMIT + 1),
         6 => whole_frames(&mut rng, 2 * INPUT_LIMIT),
         7 => vec![0; 5000],
-        _ => mixture(&mut rng),
+        _ => any(&mut rng),
+    }
+}
+
+/// Mostly mixtures; now and then one piece alone, or a frame near the limit.
+fn any(rng: &mut Prng) -> Vec<u8> {
+    match rng.below(24) {
+        0 => piece(rng),
+        1 => {
+            let end = INPUT_LIMIT - 2 + rng.below(5);
+            frame_ending_at(rng, end)
+        }
+        _ => mixture(rng),
     }
 }
 

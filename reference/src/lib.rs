@@ -8,12 +8,17 @@
 
 #![forbid(unsafe_code)]
 
+pub mod capture_coverage;
 pub mod captures;
 pub mod checksum;
+pub mod compare;
+pub mod counts;
 pub mod coverage;
+pub mod draft;
 pub mod finder;
 pub mod frame;
 pub mod generator;
+pub mod line;
 pub mod panel;
 pub mod prng;
 pub mod refusal;

@@ -151,8 +151,7 @@ impl Panel {
     /// Turn: 22, 18, 19, 11; else the next transmission is written.
     pub fn turn(&mut self, out: &mut [u8]) -> Answer {
         self.check_fit()?;
-        let waiting = matches!(self.coordinator.phase, Phase::Waiting { .. });
-        refuse_if(waiting, Refusal::AwaitingReply)?;
+        refuse_if(self.coordinator.phase.awaited().is_some(), Refusal::AwaitingReply)?;
         refuse_if(self.listed().next().is_none(), Refusal::NobodyListed)?;
         let (board, exchange, written) = self.transmit_next(out)?;
         self.coordinator.phase = Phase::Waiting { board, exchange };
@@ -232,12 +231,8 @@ impl Panel {
 
     /// 6: the wait whose board has this source address.
     fn awaited(&self, source: u8) -> Result<(usize, Exchange), Refusal> {
-        match self.coordinator.phase {
-            Phase::Waiting { board, exchange } if self.address(board) == source => {
-                Ok((board, exchange))
-            }
-            _ => Err(Refusal::NotAwaited),
-        }
+        let awaited = self.coordinator.phase.awaited();
+        awaited.filter(|&(board, _)| self.address(board) == source).ok_or(Refusal::NotAwaited)
     }
 
     /// 7 to 9: what the frame is in this wait.
@@ -339,9 +334,7 @@ impl Panel {
     /// Quiet: 22, 20; ends the wait, with a miss if nothing was accepted.
     pub fn quiet(&mut self) -> Answer {
         self.check_fit()?;
-        let Phase::Waiting { board, exchange } = self.coordinator.phase else {
-            return Err(Refusal::NotWaiting);
-        };
+        let (board, exchange) = self.coordinator.phase.awaited().ok_or(Refusal::NotWaiting)?;
         self.coordinator.phase = Phase::Idle;
         let heard = matches!(exchange, Exchange::Forward { acked: true, .. });
         let dropped = if heard { 0 } else { self.miss(board) };

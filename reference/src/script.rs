@@ -182,7 +182,7 @@ fn room(word: &str) -> Option<usize> {
 
 /// Pairs of hex digits of either case, 1 to 1,024 of them.
 pub fn pairs(word: &str) -> Option<Vec<u8>> {
-    let fits = !word.is_empty() && word.len().is_multiple_of(2) && word.len() <= 2 * FRAME_LIMIT;
+    let fits = !word.is_empty() && word.len() % 2 == 0 && word.len() <= 2 * FRAME_LIMIT;
     if !fits {
         return None;
     }

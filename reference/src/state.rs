@@ -88,6 +88,16 @@ pub enum Phase {
     },
 }
 
+impl Phase {
+    /// The board awaited and the exchange it is awaited in, if there is a wait.
+    pub fn awaited(&self) -> Option<(usize, Exchange)> {
+        match *self {
+            Phase::Waiting { board, exchange } => Some((board, exchange)),
+            _ => None,
+        }
+    }
+}
+
 /// The coordinator's record. The empty one, before a setup, is not fit.
 #[derive(Clone, Debug, Default, PartialEq, Eq)]
 pub struct Coordinator {
@@ -138,7 +148,7 @@ fn records_fit(records: &[Record], k: usize) -> bool {
 
 fn is_listed(records: &[Record], position: usize) -> bool {
     let place = position.checked_sub(1);
-    place.and_then(|i| records.get(i)).is_some_and(Record::listed)
+    place.and_then(|i| records.get(i)).map_or(false, Record::listed)
 }
 
 fn request_fits(request: &Message) -> bool {

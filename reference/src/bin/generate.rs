@@ -70,6 +70,9 @@ fn scripts(seed: u64, count: u64) -> io::Result<Option<ExitCode>> {
 fn coverage(seed: u64, count: u64) -> io::Result<Option<ExitCode>> {
     let coverage = generator::generate(seed, count as usize, &mut |_| ());
     io::stdout().write_all(coverage.report().as_bytes())?;
-    let complete = coverage.missing().is_empty();
-    Ok(Some(if complete { ExitCode::SUCCESS } else { ExitCode::FAILURE }))
+    let missing = coverage.missing();
+    for name in &missing {
+        println!("MISSING {name}");
+    }
+    Ok(Some(if missing.is_empty() { ExitCode::SUCCESS } else { ExitCode::FAILURE }))
 }

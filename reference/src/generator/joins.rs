@@ -1,0 +1,96 @@
+//! Joins and turns: what the panel's own side does between two waits.
+
+use super::{Generator, Mode};
+use crate::line::{Kind, Line};
+
+/// Node types of the boards; several of a kind, so that indexes differ.
+const TYPES: [u8; 12] = [1, 2, 2, 3, 4, 5, 5, 9, 21, 12, 24, 255];
+
+impl Generator<'_> {
+    pub(super) fn idle_line(&mut self) -> Line {
+        if self.list_owed() {
+            return self.turn_line();
+        }
+        let nobody = self.panel().listed().next().is_none();
+        let percent = match self.mode {
+            _ if self.panel().coordinator.held => 1,
+            _ if nobody => 75,
+            Mode::Calm if !self.full() => 85,
+            _ => 2 + 24 / self.panel().coordinator.pool.len(),
+        };
+        if self.rng.chance(percent) {
+            return self.join_line();
+        }
+        self.turn_line()
+    }
+
+    /// A new board, one that was dropped, or one that is listed.
+    pub(super) fn join_line(&mut self) -> Line {
+        let back = if self.mode == Mode::Calm { 4 } else { 35 };
+        if self.rng.chance(back) {
+            if let Some(board) = self.any_listed() {
+                let mac = self.panel().record(board).mac;
+                let node_type = self.rng.pick(&TYPES);
+                return Line::new(Kind::ComesBack, self.join_of(node_type, mac));
+            }
+        }
+        if !self.away.is_empty() && self.rng.chance(50) {
+            let place = self.rng.below(self.away.len());
+            let (node_type, mac) = self.away[place];
+            return Line::new(Kind::Rejoins, self.join_of(node_type, mac));
+        }
+        let node_type = self.rng.pick(&TYPES);
+        let mac = self.any_mac();
+        Line::plain(self.join_of(node_type, mac))
+    }
+
+    pub(super) fn join_of(&mut self, node_type: u8, mac: u64) -> String {
+        format!("join {node_type} {mac} {}", self.any_session())
+    }
+
+    /// A turn with room enough; the length due is learnt from a copy.
+    pub(super) fn turn_line(&mut self) -> Line {
+        let due = self.length_due();
+        let room = self.rng.pick(&[due, due + 1, 300, 300, 1024]);
+        Line::plain(format!("turn {room}"))
+    }
+
+    fn length_due(&self) -> usize {
+        let mut copy = self.panel().clone();
+        copy.turn(&mut [0; 300]).map_or(0, |outcome| outcome.written)
+    }
+
+    /// When nothing is awaited, something that is refused.
+    pub(super) fn idle_mishap(&mut self) -> Line {
+        match self.rng.below(10) {
+            0 => Line::plain("quiet"),
+            1 | 2 => self.stray_line(),
+            3 => self.bad_type_join(),
+            4 => self.bad_mac_join(),
+            5..=7 => self.narrow_turn(),
+            _ => self.join_line(),
+        }
+    }
+
+    /// Refused by 12, whatever the MAC.
+    pub(super) fn bad_type_join(&mut self) -> Line {
+        let (node_type, mac) = (self.rng.pick(&[0, 165]), self.any_mac());
+        let bad = self.bad_mac();
+        let mac = self.rng.pick(&[mac, mac, bad]);
+        Line::plain(self.join_of(node_type, mac))
+    }
+
+    fn bad_mac_join(&mut self) -> Line {
+        let (node_type, mac) = (self.rng.pick(&TYPES), self.bad_mac());
+        Line::plain(self.join_of(node_type, mac))
+    }
+
+    /// Refused by 11: one byte too few for what is due, or more.
+    fn narrow_turn(&mut self) -> Line {
+        let due = self.length_due();
+        let less = self.rng.below(due);
+        let room = self.rng.pick(&[due.saturating_sub(1), due.saturating_sub(1), less, 0]);
+        let kind = if room + 1 == due { Kind::OneShort } else { Kind::Narrow };
+        Line::new(kind, format!("turn {room}"))
+    }
+}
