@@ -241,7 +241,8 @@ fn are_apart(macs: &[u64]) -> bool
     ok
 }
 
-// The table is fit among k positions.
+// The table is fit among k positions. It is passed once; the MACs are compared by themselves, since a slice of them is cheap to hand on
+// in a loop, and the table is not.
 pub fn table_fits(k: usize, table: Table) -> bool
     ensures { λ r. ⌜ r ≡ tableFits k (table .nodes) ⌝ }
 {
