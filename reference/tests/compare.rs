@@ -56,7 +56,7 @@ fn the_gate_tells_a_shrunk_mismatch() {
     let folder = Folder::new("mismatch");
     let slip = folder.0.join("slip");
     fs::write(&slip, format!("{REPLAY} | sed 's/^rest dropped .*/rest/'\n")).unwrap();
-    let output = folder.compare(&format!("sh {}", slip.display()), &["gate", "1", "0"]);
+    let output = folder.compare(&format!("sh\n{}", slip.display()), &["gate", "1", "0"]);
     let text = text(&output);
     assert!(text.starts_with("compare: the script of seed 1: answer "), "{text}");
     assert!(text.ends_with("\n  ours       rest\n  reference  rest dropped 1\n"), "{text}");

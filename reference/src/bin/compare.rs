@@ -3,8 +3,8 @@
 //!     compare REPLAY FRAMELIST FOLDER gate SCRIPTS CAPTURES
 //!     compare REPLAY FRAMELIST FOLDER soak MINUTES FIRST_SEED terminal|lines
 //!
-//! REPLAY and FRAMELIST are the commands that run them, words separated by
-//! spaces. 1 if something differs or the gate did not reach all it has to.
+//! REPLAY and FRAMELIST are the commands that run them, a word to a line.
+//! 1 if something differs or the gate did not reach all it has to.
 
 use reference::compare::mismatch::Mismatch;
 use reference::compare::pool::{self, Outcome};

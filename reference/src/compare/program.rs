@@ -10,9 +10,9 @@ pub struct Program {
 }
 
 impl Program {
-    /// The command and its words, separated by spaces.
+    /// The command and its words, a word to a line.
     pub fn new(command: &str) -> Program {
-        Program { words: command.split(' ').map(str::to_string).collect() }
+        Program { words: command.split('\n').map(str::to_string).collect() }
     }
 
     /// What it answers. Where it does not end well, that is its last line.

@@ -1,0 +1,35 @@
+#include "records.h"
+
+#include <string.h>
+
+static bool same_node(const struct nadrelgos_node *one, const struct nadrelgos_node *other) {
+    return one->kind == other->kind && one->mac == other->mac && one->session == other->session &&
+           one->misses == other->misses && one->owed == other->owed;
+}
+
+bool same_nodes(const struct nadrelgos_node *some, const struct nadrelgos_node *others, size_t count) {
+    for (size_t i = 0; i < count; i++)
+        if (!same_node(&some[i], &others[i])) return false;
+    return true;
+}
+
+static bool same_settings(const struct nadrelgos_settings *one, const struct nadrelgos_settings *other) {
+    return memcmp(one->pool, other->pool, sizeof one->pool) == 0 && one->k == other->k &&
+           one->subnet == other->subnet && one->internal == other->internal && one->mac == other->mac &&
+           one->session == other->session;
+}
+
+static bool same_stand(const struct nadrelgos_stand *one, const struct nadrelgos_stand *other) {
+    return one->stage == other->stage && one->board == other->board && one->requester == other->requester;
+}
+
+static bool same_kept(const struct nadrelgos_kept *one, const struct nadrelgos_kept *other) {
+    return one->message == other->message && one->packet == other->packet && one->kind == other->kind &&
+           one->method == other->method && one->parameter == other->parameter && one->length == other->length &&
+           memcmp(one->payload, other->payload, sizeof one->payload) == 0;
+}
+
+bool same_coordinator(const struct nadrelgos_coordinator *one, const struct nadrelgos_coordinator *other) {
+    return same_settings(&one->setup, &other->setup) && one->last == other->last && one->held == other->held &&
+           same_stand(&one->stand, &other->stand) && same_kept(&one->kept, &other->kept);
+}

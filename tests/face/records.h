@@ -1,0 +1,13 @@
+/* The panel's records compared by fields: the bytes between the fields have no meaning, and a call may change them. */
+#ifndef RECORDS_H
+#define RECORDS_H
+
+#include "nadrelgos.h"
+
+#include <stdbool.h>
+
+bool same_nodes(const struct nadrelgos_node *some, const struct nadrelgos_node *others, size_t count);
+
+bool same_coordinator(const struct nadrelgos_coordinator *one, const struct nadrelgos_coordinator *other);
+
+#endif
