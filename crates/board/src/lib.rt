@@ -98,15 +98,19 @@ pub fn joined_node(kind: u8, mac: u64, session: u64) -> Node
     }
 }
 
+// The mark of a record that is owed the list where it is a listed board's.
+fn owed_mark(node: Node) -> u8
+    ensures { λ r. ⌜ r ≡ owe node .owed ⌝ }
+{
+    if node.kind != 0 { 1 } else { node.owed }
+}
+
 // The record of a board to which the list is owed. A free position's record stays as it is.
 pub fn owe(node: Node) -> Node
     ensures { λ r. ⌜ r ≡ owe node ⌝ }
 {
     let mut n = node;
-    if n.kind != 0 {
-        n.owed = 1;
-        return n;
-    }
+    n.owed = owed_mark(node);
     n
 }
 
@@ -279,15 +283,15 @@ pub fn index_of(table: Table, position: usize) -> usize
     0
 }
 
-// The table with the list owed to every listed board.
+// The table with the list owed to every listed board. The mark alone is stored: a record taken out and put back costs more.
 pub fn owe_all(table: Table) -> Table
     ensures { λ r. ⌜ r .nodes ≡ oweAll (table .nodes) ⌝ }
 {
     let mut u = table;
     let mut i: usize = 0;
     while i < 40 {
-        let n = owe(u.nodes[i]);
-        u.nodes[i] = n;
+        let mark = owed_mark(u.nodes[i]);
+        u.nodes[i].owed = mark;
         i += 1;
     }
     u

@@ -6,7 +6,7 @@ use mathlib.Core.Path.{_≡_, refl, sym, ap, _∙_}
 use mathlib.Core.Bool.{Bool, true, false, _&&_}
 use mathlib.Core.List.{List, [], _∷_, _++_}
 use lib.ListN.{length, getD, take, drop}
-use lib.Seq.{take-suc, take-length}
+use lib.Seq.{take-suc, take-add, take-length}
 use lib.Dec.{eqb}
 use borrow.Author.Needs.{needs}
 use borrow.Author.Tests.{eq-eqb, ne-eqb, eqb-true}
@@ -121,17 +121,49 @@ only-check bs c d hc hd g = rw (second-is (sums bs) c d small hc hd one two, fir
     two : added (added (sums bs) c) d .second ≡ 0
     two = ap (λ (x : Sums). x .second) (sym over) ∙ eqb-true _ _ (and-right (eqb (sums (bs ++ c ∷ d ∷ []) .first) 0) (eqb (sums (bs ++ c ∷ d ∷ []) .second) 0) g)
 
--- a loop that adds the bytes one by one: the first i are done
+-- sums of which the remainders are still to be taken
+abbrev pub reduced : ℕ → ℕ → Sums
+reduced f g = record { first = f % 255; second = g % 255 }
+
+reduced-added : (f g b : ℕ) → reduced (f + b) (g + (f + b)) ≡ added (reduced f g) b
+reduced-added f g b = λ i. record { first = one i; second = two i }
+  where
+    one : (f + b) % 255 ≡ (f % 255 + b) % 255
+    one = omega arith
+
+    two : (g + (f + b)) % 255 ≡ (g % 255 + (f % 255 + b) % 255) % 255
+    two = omega arith
+
+-- a loop that adds the bytes one by one and takes the remainders at its end: the first i are done
+pub reduced-none : (s : Sums) (bs : List ℕ) → s .first < 255 → s .second < 255 → reduced (s .first) (s .second) ≡ sumsFrom s (take 0 bs)
+unfolding sumsFrom
+reduced-none s bs h l = λ i. record { first = one i; second = two i }
+  where
+    one : s .first % 255 ≡ s .first
+    one = omega arith
+
+    two : s .second % 255 ≡ s .second
+    two = omega arith
+
+pub reduced-step : (s : Sums) (bs : List ℕ) (i b f g : ℕ) → reduced f g ≡ sumsFrom s (take i bs) → i < length bs → b ≡ getD bs i 0 → reduced (f + b) (g + (f + b)) ≡ sumsFrom s (take (i + 1) bs)
+unfolding sumsFrom
+reduced-step s bs i b f g h l e = rw (add-one, take-suc bs i 0 l, sums-append s (take i bs) (getD bs i 0 ∷ []), ← h, ← e) (reduced-added f g b)
+
+pub reduced-end : (s : Sums) (bs : List ℕ) (i f g : ℕ) → reduced f g ≡ sumsFrom s (take i bs) → i ≤ length bs → length bs ≤ i → reduced f g ≡ sumsFrom s bs
+reduced-end s bs i f g h a b = h ∙ rw (let e : i ≡ length bs = omega arith in e) (rw (take-length bs) refl)
+
+-- a loop that continues the sums over one stretch after another: the first i bytes are done
 pub sums-none : (bs : List ℕ) → seed ≡ sums (take 0 bs)
 unfolding sumsFrom
 sums-none bs = refl
 
-pub sums-step : (bs : List ℕ) (i b : ℕ) (s r : Sums) → s ≡ sums (take i bs) → i < length bs → b ≡ getD bs i 0 → r ≡ added s b → r ≡ sums (take (i + 1) bs)
-unfolding sumsFrom
-sums-step bs i b s r h l e q = rw (add-one, take-suc bs i 0 l, sums-append seed (take i bs) (getD bs i 0 ∷ []), ← h, ← e) q
+pub sums-stretch : (bs : List ℕ) (i e : ℕ) (s r : Sums) → i ≤ e → s ≡ sums (take i bs) → r ≡ sumsFrom s (take (e - i) (drop i bs)) → r ≡ sums (take e bs)
+sums-stretch bs i e s r l h q =
+    rw (let b : e ≡ i + (e - i) = omega arith in b)
+    (rw (take-add i (e - i) bs, sums-append seed (take i bs) (take (e - i) (drop i bs)), ← h) q)
 
 pub sums-end : (bs : List ℕ) (i : ℕ) (s : Sums) → s ≡ sums (take i bs) → i ≤ length bs → length bs ≤ i → s ≡ sums bs
 sums-end bs i s h a b = h ∙ rw (let e : i ≡ length bs = omega arith in e) (rw (take-length bs) refl)
 
--- what closes each need of such a loop
-pub ruleset summing = (needs, sums-none, sums-step, sums-end)
+-- what closes each need of such loops
+pub ruleset summing = (needs, reduced-none, reduced-step, reduced-end, sums-none, sums-stretch, sums-end)

@@ -1,7 +1,8 @@
 // The checksum of a CT-485 frame: two running sums over its bytes.
 ghost use mathlib.Core.Path.{_≡_};
-ghost use Prim.Native.Nat.{_+_, _%_, _<_, _≤_};
-ghost use Rattle.fletcher.specs.Fletcher.{seed, added, sums, isGood, checkBytes};
+ghost use Prim.Native.Nat.{_<_, _≤_};
+ghost use lib.ListN.{length};
+ghost use Rattle.fletcher.specs.Fletcher.{sumsFrom, sums, isGood, checkBytes};
 
 // The two sums. Each is below 255 wherever this crate made them.
 pub struct Sums {
@@ -16,15 +17,22 @@ fn wide(b: u8) -> u32
     b as u32
 }
 
-// One byte more.
-fn add(s: Sums, b: u32) -> Sums
-    requires { ⌜ (s .first < 255) × (s .second < 255) × (b < 256) ⌝ }
-    ensures { λ r. ⌜ (r ≡ added s b) × (r .first < 255) × (r .second < 255) ⌝ }
+// The sums continued over few enough bytes that they have room to grow: one remainder of each at the end does for all.
+fn continued(s: Sums, bytes: &[u8]) -> Sums
+    requires { ⌜ (s .first < 255) × (s .second < 255) × (length (now bytes) ≤ 4096) ⌝ }
+    ensures { λ r. ⌜ (r ≡ sumsFrom s (now (bytes .entry))) × (r .first < 255) × (r .second < 255) ⌝ }
 {
-    let first = (s.first + b) % 255;
+    let mut first = s.first;
+    let mut second = s.second;
+    let mut i: usize = 0;
+    while i < bytes.len() {
+        first += wide(bytes[i]);
+        second += first;
+        i += 1;
+    }
     Sums {
-        first: first,
-        second: (s.second + first) % 255,
+        first: first % 255,
+        second: second % 255,
     }
 }
 
@@ -38,8 +46,9 @@ pub fn sums_over(bytes: &[u8]) -> Sums
     };
     let mut i: usize = 0;
     while i < bytes.len() {
-        s = add(s, wide(bytes[i]));
-        i += 1;
+        let end = i + ground::least(bytes.len() - i, 4096);
+        s = continued(s, &bytes[i..end]);
+        i = end;
     }
     s
 }

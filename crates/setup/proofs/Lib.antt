@@ -1,4 +1,5 @@
 pub mod Apart
+pub mod Lower
 pub mod Tables
 pub mod Pools
 pub mod Addresses

@@ -4,13 +4,13 @@ use board::Node;
 use board::Table;
 use refusal::Refusal;
 ghost use mathlib.Core.Path.{_≡_};
-ghost use mathlib.Core.List.{map, []};
+ghost use mathlib.Core.List.{[]};
 ghost use Prim.Native.Nat.{_+_, _≤_, _<_};
 ghost use lib.ListN.{length};
 ghost use Rattle.refusal.specs.Refusal.{ruled, refuses, gives};
 ghost use Rattle.board.specs.Node.{isMac, isBlank, inRange};
 ghost use Rattle.setup.specs.Setup.{areAddresses, areRising, arePool, isPool, shippedPool, address, setupFits, setupRules, toldOf};
-ghost use Rattle.setup.specs.Fit.{recordFits, recordsFit, apartFrom, areApart, macOf, tableFits};
+ghost use Rattle.setup.specs.Fit.{recordFits, apartFrom, areApart, tableFits};
 
 // The first k of the pool are in use. `internal` is the type of the virtual internal subordinate.
 #[repr(C)]
@@ -202,33 +202,11 @@ fn is_blank(node: Node) -> bool
 fn record_fits(k: usize, i: usize, node: Node) -> bool
     ensures { λ r. ⌜ r ≡ recordFits k i node ⌝ }
 {
-    ((i < k) & in_range(node)) | is_blank(node)
-}
-
-// So is each of the forty.
-fn records_fit(k: usize, table: Table) -> bool
-    ensures { λ r. ⌜ r ≡ recordsFit k (table .nodes) ⌝ }
-{
-    let mut ok = true;
-    let mut i: usize = 0;
-    while i < 40 {
-        ok = ok & record_fits(k, i, table.nodes[i]);
-        i += 1;
+    if node.kind == 0 {
+        is_blank(node)
+    } else {
+        (i < k) & in_range(node)
     }
-    ok
-}
-
-// The MACs by themselves: a slice of them is cheap to hand on in a loop, and the table is not.
-fn macs_of(table: Table) -> [u64; 40]
-    ensures { λ r. ⌜ r ≡ map macOf (table .nodes) ⌝ }
-{
-    let mut macs = [0u64; 40];
-    let mut j: usize = 0;
-    while j < 40 {
-        macs[j] = table.nodes[j].mac;
-        j += 1;
-    }
-    macs
 }
 
 // The MAC at index i is 0, or none of those before it.
@@ -237,13 +215,17 @@ fn apart_from_lower(macs: &[u64], i: usize) -> bool
     ensures { λ r. ⌜ r ≡ apartFrom (now (macs .entry)) i ⌝ }
 {
     let mac = macs[i];
-    let mut ok = true;
+    if mac == 0 {
+        return true;
+    }
     let mut j: usize = 0;
     while j < i {
-        ok = ok & ((mac == 0) | (mac != macs[j]));
+        if mac == macs[j] {
+            return false;
+        }
         j += 1;
     }
-    ok
+    true
 }
 
 // No MAC but 0 stands twice: each pair is compared once.
@@ -259,10 +241,18 @@ fn are_apart(macs: &[u64]) -> bool
     ok
 }
 
-// The table is fit among k positions.
+// The table is fit among k positions. It is passed once; the MACs are compared by themselves, since a slice of them is cheap to hand on
+// in a loop, and the table is not.
 pub fn table_fits(k: usize, table: Table) -> bool
     ensures { λ r. ⌜ r ≡ tableFits k (table .nodes) ⌝ }
 {
-    let macs = macs_of(table);
-    records_fit(k, table) & are_apart(&macs)
+    let mut macs = [0u64; 40];
+    let mut ok = true;
+    let mut i: usize = 0;
+    while i < 40 {
+        ok = ok & record_fits(k, i, table.nodes[i]);
+        macs[i] = table.nodes[i].mac;
+        i += 1;
+    }
+    ok & are_apart(&macs)
 }

@@ -1,9 +1,10 @@
 -- `fletcher::sums_over` meets its contract. The loop's invariant: the sums are those over the bytes passed.
 use Prim.Native.Nat.{_-_, _≤_, _<_}
 use mathlib.Core.Path.{_≡_}
+use native.Mathlib.Omega.{arith}
 use lib.ListN.{length, take}
 use Rattle.fletcher.specs.Fletcher.{sums}
-use Rattle.fletcher.proofs.Laws.{summing}
+use Rattle.fletcher.proofs.Laws.{sums-stretch, summing}
 use Rattle.fletcher.proofs.sums_over.Statement.{statement}
 use Rattle.fletcher.proofs.sums_over.Tie as tie
 
@@ -16,23 +17,32 @@ abbrev μ-loop : tie.MeasureT-loop
 loop-holds : tie.Need-loop-holds Inv-loop μ-loop
 loop-holds c = search summing
 
-shared-slice-read-wide : tie.Need-shared-slice-read-wide Inv-loop μ-loop
-shared-slice-read-wide c = search summing
+sub-least : tie.Need-sub-least Inv-loop μ-loop
+sub-least c = search summing
 
-wide-requires : tie.Need-wide-requires Inv-loop μ-loop
-wide-requires c κs = search summing
+least-requires : tie.Need-least-requires Inv-loop μ-loop
+least-requires c κs = search summing
 
-add-requires : tie.Need-add-requires Inv-loop μ-loop
-add-requires c κs = search summing
+add-end : tie.Need-add-end Inv-loop μ-loop
+add-end c = search summing
 
-add-i : tie.Need-add-i Inv-loop μ-loop
-add-i c = search summing
+sub-continued : tie.Need-sub-continued Inv-loop μ-loop
+sub-continued c = search summing
+
+part-continued-start : tie.Need-part-continued-start Inv-loop μ-loop
+part-continued-start c = search summing
+
+part-continued-end : tie.Need-part-continued-end Inv-loop μ-loop
+part-continued-end c = search summing
+
+continued-requires : tie.Need-continued-requires Inv-loop μ-loop
+continued-requires c κs = search summing
 
 loop-less : tie.Need-loop-less Inv-loop μ-loop
 loop-less c = search summing
 
 loop-again : tie.Need-loop-again Inv-loop μ-loop
-loop-again c = search summing
+loop-again c = (search summing, sums-stretch _ (c .before .before .before .before .loop .i) _ _ _ (search summing) (c .before .before .before .before .loop .inv .1) (c .continued .ensures .0), search summing, search summing)
 
 returns : tie.Need-returns Inv-loop μ-loop
 returns c = search summing
@@ -44,10 +54,13 @@ sums-over-spec =
     Inv-loop
     μ-loop
     loop-holds
-    shared-slice-read-wide
-    wide-requires
-    add-requires
-    add-i
+    sub-least
+    least-requires
+    add-end
+    sub-continued
+    part-continued-start
+    part-continued-end
+    continued-requires
     loop-less
     loop-again
     returns)

@@ -1,0 +1,32 @@
+/* What is timed: frames, captures, panels. */
+#ifndef INPUTS_H
+#define INPUTS_H
+
+#include "proved.h"
+
+enum { CAPTURE = 4096 };
+
+/* Numbers that look random and are the same in every run. */
+uint64_t next_random(uint64_t *seed);
+
+/* A frame of `length` payload bytes at the front of out; its length. */
+size_t make_frame(size_t length, uint8_t *out);
+
+/* The ACK of the board at a position. */
+size_t make_ack(const ct_coordinator *c, const ct_node *nodes, size_t position, uint8_t *out);
+
+/* Good frames with noise between. */
+void make_typical(uint8_t capture[CAPTURE]);
+
+/* No good frame, and at every start a candidate of the longest length. */
+void make_worst(uint8_t capture[CAPTURE]);
+
+struct panel {
+    struct nadrelgos_coordinator coordinator;
+    struct table table;
+};
+
+/* A panel with k = 40 and so many boards, resting, to none of which a list is owed, that offered the bus to `last`. */
+void make_panel(struct panel *p, size_t boards, size_t last);
+
+#endif

@@ -1,0 +1,332 @@
+/* main: checks that the proved code and the counterpart give the same, then times them side by side and prints a table.
+ * main loop HOW EVENT BOARDS TIMES: runs one step so many times, for a count of instructions. */
+#define _POSIX_C_SOURCE 199309L
+#include "same.h"
+
+#include <stdio.h>
+#include <stdlib.h>
+#include <string.h>
+#include <time.h>
+
+enum { PANELS = 8 };
+
+static double now(void)
+{
+    struct timespec t;
+    clock_gettime(CLOCK_MONOTONIC, &t);
+    return (double)t.tv_sec * 1e9 + (double)t.tv_nsec;
+}
+
+/* What is timed. Each job does `times` calls and gives a number that depends on them. */
+struct work {
+    const uint8_t *bytes;
+    size_t count;
+    struct panel panels[PANELS];
+    uint8_t acks[PANELS][CT_FRAME];
+    size_t ack_count;
+    uint8_t event;
+    uint8_t out[CT_FRAME];
+};
+
+typedef size_t job(struct work *w, size_t times);
+
+static size_t good_proved(struct work *w, size_t times)
+{
+    size_t sum = 0;
+    while (times-- > 0)
+        sum += measure_good(w->bytes, w->count);
+    return sum;
+}
+
+static size_t good_counterpart(struct work *w, size_t times)
+{
+    size_t sum = 0;
+    while (times-- > 0)
+        sum += ct_good(w->bytes, w->count);
+    return sum;
+}
+
+static size_t read_proved(struct work *w, size_t times)
+{
+    size_t sum = 0;
+    while (times-- > 0) {
+        struct read_numbers r = measure_read(w->bytes, w->count);
+        sum += r.fields.message;
+    }
+    return sum;
+}
+
+static size_t read_counterpart(struct work *w, size_t times)
+{
+    size_t sum = 0;
+    while (times-- > 0) {
+        struct ct_frame f;
+        if (ct_read(w->bytes, w->count, &f) == NADRELGOS_ACCEPTED)
+            sum += f.header.message;
+    }
+    return sum;
+}
+
+static size_t write_proved(struct work *w, size_t times)
+{
+    size_t sum = 0;
+    struct ct_header header;
+    memcpy(&header, w->bytes, sizeof header);
+    while (times-- > 0)
+        sum += measure_write(header, w->bytes + 10, w->count - CT_OVERHEAD, w->out, sizeof w->out).written;
+    return sum;
+}
+
+static size_t write_counterpart(struct work *w, size_t times)
+{
+    size_t sum = 0;
+    struct ct_header header;
+    memcpy(&header, w->bytes, sizeof header);
+    while (times-- > 0)
+        sum += ct_write(&header, w->bytes + 10, w->count - CT_OVERHEAD, w->out, sizeof w->out) == NADRELGOS_ACCEPTED;
+    return sum;
+}
+
+/* Goes on after each frame found, as framelist does. */
+static size_t list_proved(struct work *w, size_t times)
+{
+    size_t frames = 0;
+    while (times-- > 0)
+        for (size_t at = 0;;) {
+            struct find_numbers f = measure_find(w->bytes + at, w->count - at, w->count);
+            if (f.number != CT_FOUND)
+                break;
+            at += f.start + f.length;
+            frames++;
+        }
+    return frames;
+}
+
+static size_t list_counterpart(struct work *w, size_t times)
+{
+    size_t frames = 0;
+    while (times-- > 0)
+        for (size_t at = 0;;) {
+            struct ct_finding f = ct_find(w->bytes + at, w->count - at, w->count);
+            if (f.found != CT_FOUND)
+                break;
+            at += f.start + f.length;
+            frames++;
+        }
+    return frames;
+}
+
+/* One step on each panel. They are set anew before, outside the time that is taken. */
+static size_t steps_by_value(struct work *w, size_t times)
+{
+    size_t sum = 0;
+    for (size_t i = 0; i < times; i++) {
+        struct step_numbers r = measure_step(w->panels[i].coordinator, w->panels[i].table, w->event, 0, 0, 0,
+                                             w->acks[i], w->ack_count, w->out, sizeof w->out);
+        sum += nadrelgos_answer(r.answer);
+    }
+    return sum;
+}
+
+static size_t steps_counterpart(struct work *w, size_t times)
+{
+    size_t sum = 0;
+    for (size_t i = 0; i < times; i++)
+        sum += nadrelgos_answer(
+            step_counterpart(&w->panels[i], w->event, 0, 0, 0, w->acks[i], w->ack_count, w->out, sizeof w->out));
+    return sum;
+}
+
+static size_t steps_lent(struct work *w, size_t times)
+{
+    size_t sum = 0;
+    for (size_t i = 0; i < times; i++)
+        sum += nadrelgos_answer(nadrelgos_step(&w->panels[i].coordinator, w->panels[i].table.nodes, NADRELGOS_NODES,
+                                               w->event, 0, 0, 0, w->acks[i], w->ack_count, w->out, sizeof w->out));
+    return sum;
+}
+
+/* Panels that are about to offer the bus; for an event in a wait, those that have offered it. */
+static void set_panels(struct work *w, size_t boards, uint8_t event)
+{
+    for (size_t i = 0; i < PANELS; i++) {
+        struct panel *p = &w->panels[i];
+        make_panel(p, boards, i * 5 % boards);
+        if (event != NADRELGOS_EVENT_TURN) {
+            ct_turn(&p->coordinator, p->table.nodes, NADRELGOS_NODES, w->out, sizeof w->out);
+            w->ack_count = make_ack(&p->coordinator, p->table.nodes, p->coordinator.stand.board, w->acks[i]);
+        }
+    }
+    w->event = event;
+}
+
+/* ---- time ---- */
+
+static double clock_cost;
+static volatile size_t sink;
+
+/* The best of many rounds, in which the jobs take turns, in nanoseconds a call. */
+static void race(struct work *w, job *const *jobs, size_t job_count, size_t times, size_t rounds, double *best)
+{
+    static struct panel kept[PANELS];
+    memcpy(kept, w->panels, sizeof kept);
+    for (size_t j = 0; j < job_count; j++)
+        best[j] = 1e18;
+    for (size_t round = 0; round < rounds; round++)
+        for (size_t j = 0; j < job_count; j++) {
+            memcpy(w->panels, kept, sizeof kept);
+            double start = now();
+            sink += jobs[j](w, times);
+            double spent = (now() - start - clock_cost) / (double)times;
+            if (spent < best[j])
+                best[j] = spent;
+        }
+}
+
+static void time_clock(void)
+{
+    clock_cost = 1e18;
+    for (int i = 0; i < 20000; i++) {
+        double start = now(), spent = now() - start;
+        if (spent < clock_cost)
+            clock_cost = spent;
+    }
+}
+
+/* ---- tables ---- */
+
+static void row(const char *name, struct work *w, job *proved, job *counterpart, size_t times, size_t rounds)
+{
+    double best[2];
+    race(w, (job *[]){proved, counterpart}, 2, times, rounds, best);
+    printf("%-34s %12.1f %12.1f %8.2f\n", name, best[0], best[1], best[0] / best[1]);
+}
+
+static void wire_table(struct work *w)
+{
+    static uint8_t full[CT_FRAME], empty[CT_FRAME], capture[CAPTURE];
+    size_t full_count = make_frame(CT_PAYLOAD, full), empty_count = make_frame(0, empty);
+    printf("%-34s %12s %12s %8s\n", "ns a call", "proved", "C -O2", "ratio");
+    w->bytes = full, w->count = full_count;
+    row("checksum, 252 bytes", w, good_proved, good_counterpart, 20, 4000);
+    w->bytes = empty, w->count = empty_count;
+    row("checksum, 12 bytes", w, good_proved, good_counterpart, 200, 4000);
+    w->bytes = full, w->count = full_count;
+    row("read, payload of 240", w, read_proved, read_counterpart, 20, 4000);
+    w->bytes = empty, w->count = empty_count;
+    row("read, payload of 0", w, read_proved, read_counterpart, 200, 4000);
+    w->bytes = full, w->count = full_count;
+    row("write, payload of 240", w, write_proved, write_counterpart, 20, 4000);
+    w->bytes = empty, w->count = empty_count;
+    row("write, payload of 0", w, write_proved, write_counterpart, 200, 4000);
+    w->bytes = capture, w->count = CAPTURE;
+    make_typical(capture);
+    row("find all in 4,096 bytes, typical", w, list_proved, list_counterpart, 1, 400);
+    make_worst(capture);
+    row("find in 4,096 bytes, worst", w, list_proved, list_counterpart, 1, 60);
+}
+
+enum { BY_VALUE, LENT, COUNTERPART, STEPPERS };
+static job *const steppers[STEPPERS] = {steps_by_value, steps_lent, steps_counterpart};
+
+static const size_t board_counts[] = {1, 8, 40};
+static const uint8_t events[] = {NADRELGOS_EVENT_TURN, NADRELGOS_EVENT_FRAME, NADRELGOS_EVENT_QUIET};
+static const char *const event_names[] = {"turn: an offer", "frame: its ACK", "quiet: a miss"};
+static double step_times[3][3][STEPPERS]; /* event, boards, stepper */
+
+static void step_table(struct work *w)
+{
+    printf("\n%-28s %9s %9s %9s %11s %7s %14s\n", "ns a step", "by value", "lent", "C -O2", "by value/C", "lent/C",
+           "lent/by value");
+    for (size_t e = 0; e < 3; e++)
+        for (size_t b = 0; b < 3; b++) {
+            double *best = step_times[e][b];
+            char name[64];
+            set_panels(w, board_counts[b], events[e]);
+            race(w, steppers, STEPPERS, PANELS, 4000, best);
+            snprintf(name, sizeof name, "%s, %zu board%s", event_names[e], board_counts[b], b ? "s" : "");
+            printf("%-28s %9.1f %9.1f %9.1f %11.2f %7.2f %14.2f\n", name, best[BY_VALUE], best[LENT], best[COUNTERPART],
+                   best[BY_VALUE] / best[COUNTERPART], best[LENT] / best[COUNTERPART], best[LENT] / best[BY_VALUE]);
+        }
+}
+
+/* How a time grows from each size to the next. */
+static void growth_row(const char *name, const double *times, size_t count)
+{
+    printf("%-34s", name);
+    for (size_t i = 0; i < count; i++) {
+        printf(" %10.0f", times[i]);
+        if (i > 0)
+            printf(" (x%.2f)", times[i] / times[i - 1]);
+    }
+    printf("\n");
+}
+
+static void growth_table(struct work *w)
+{
+    static uint8_t capture[CAPTURE];
+    static const size_t sizes[] = {512, 1024, 2048, 4096};
+    printf("\n%-34s %10s %10s %18s %17s\n", "growth: ns over bytes", "512", "1,024", "2,048", "4,096");
+    for (int worst = 0; worst < 2; worst++) {
+        double times[2][4];
+        w->bytes = capture;
+        (worst ? make_worst : make_typical)(capture);
+        for (size_t s = 0; s < 4; s++) {
+            double best[2];
+            w->count = sizes[s];
+            race(w, (job *[]){list_proved, list_counterpart}, 2, 1, worst ? 60 : 400, best);
+            times[0][s] = best[0], times[1][s] = best[1];
+        }
+        growth_row(worst ? "find, worst, proved" : "find all, typical, proved", times[0], 4);
+        growth_row(worst ? "find, worst, C" : "find all, typical, C", times[1], 4);
+    }
+    printf("\n%-34s %10s %10s %18s\n", "growth: ns over boards", "1", "8", "40");
+    static const char *const stepper_names[STEPPERS] = {"by value", "lent", "C"};
+    for (size_t e = 0; e < 3; e++)
+        for (size_t j = 0; j < STEPPERS; j++) {
+            char name[64];
+            double times[3];
+            for (size_t b = 0; b < 3; b++)
+                times[b] = step_times[e][b][j];
+            snprintf(name, sizeof name, "%s, %s", event_names[e], stepper_names[j]);
+            growth_row(name, times, 3);
+        }
+}
+
+/* ---- one step over and over ---- */
+
+static int loop(const char *what, const char *event, size_t boards, size_t times)
+{
+    static struct work w;
+    static const char *const names[STEPPERS] = {"by-value", "lent", "counterpart"};
+    static const char *const event_words[] = {"turn", "frame", "quiet"};
+    for (size_t e = 0; e < 3; e++)
+        for (size_t j = 0; j < STEPPERS; j++)
+            if (strcmp(what, names[j]) == 0 && strcmp(event, event_words[e]) == 0 && boards >= 1 &&
+                boards <= NADRELGOS_NODES) {
+                while (times-- > 0) {
+                    set_panels(&w, boards, events[e]);
+                    sink += steppers[j](&w, 1);
+                }
+                return 0;
+            }
+    fprintf(stderr, "usage: main [loop by-value|lent|counterpart turn|frame|quiet BOARDS TIMES]\n");
+    return 2;
+}
+
+int main(int argc, char **argv)
+{
+    static struct work w;
+    if (argc == 6 && strcmp(argv[1], "loop") == 0)
+        return loop(argv[2], argv[3], strtoul(argv[4], NULL, 10), strtoul(argv[5], NULL, 10));
+    if (argc != 1)
+        return loop("", "", 0, 0);
+    if (!all_same())
+        return 1;
+    printf("The proved code and the counterpart give the same answers, bytes and records on all that is timed.\n\n");
+    time_clock();
+    wire_table(&w);
+    step_table(&w);
+    growth_table(&w);
+    return 0;
+}

@@ -1,0 +1,42 @@
+/* The functions of crates/measure as C calls them. The panel's face is include/nadrelgos.h. */
+#ifndef PROVED_H
+#define PROVED_H
+
+#include "counterpart.h"
+
+struct table {
+    struct nadrelgos_node nodes[NADRELGOS_NODES];
+};
+
+struct read_numbers {
+    uint8_t refusal;
+    struct ct_header fields;
+    size_t length;
+};
+
+struct write_numbers {
+    uint8_t refusal;
+    size_t written;
+};
+
+struct find_numbers {
+    uint8_t number;
+    size_t start, length, tried;
+};
+
+struct step_numbers {
+    struct nadrelgos_coordinator coordinator;
+    struct table table;
+    uint64_t answer;
+};
+
+bool measure_good(const uint8_t *bytes, size_t count);
+struct read_numbers measure_read(const uint8_t *bytes, size_t count);
+struct write_numbers measure_write(struct ct_header fields, const uint8_t *payload, size_t length, uint8_t *out,
+                                   size_t room);
+struct find_numbers measure_find(const uint8_t *bytes, size_t count, size_t budget);
+struct step_numbers measure_step(struct nadrelgos_coordinator coordinator, struct table table, uint8_t event,
+                                 uint8_t kind, uint64_t mac, uint64_t session, const uint8_t *received,
+                                 size_t received_count, uint8_t *out, size_t room);
+
+#endif

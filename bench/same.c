@@ -1,0 +1,345 @@
+#include "same.h"
+
+#include <stdio.h>
+#include <string.h>
+
+/* ---- the three panels behind one face ---- */
+
+/* The counterpart's answer has the order of the packed one. */
+static uint64_t packed(struct ct_answer answer)
+{
+    uint64_t number;
+    memcpy(&number, &answer, sizeof number);
+    return number;
+}
+
+uint64_t step_counterpart(struct panel *p, uint8_t event, uint8_t kind, uint64_t mac, uint64_t session,
+                          const uint8_t *received, size_t count, uint8_t *out, size_t room)
+{
+    ct_coordinator *c = &p->coordinator;
+    ct_node *nodes = p->table.nodes;
+    struct ct_answer answer;
+    switch (event) {
+    case NADRELGOS_EVENT_TURN:
+        answer = ct_turn(c, nodes, NADRELGOS_NODES, out, room);
+        break;
+    case NADRELGOS_EVENT_FRAME:
+        answer = ct_hear(c, nodes, NADRELGOS_NODES, received, count, out, room);
+        break;
+    case NADRELGOS_EVENT_QUIET:
+        answer = ct_quiet(c, nodes, NADRELGOS_NODES);
+        break;
+    default:
+        answer = ct_join(c, nodes, NADRELGOS_NODES, kind, mac, session);
+        break;
+    }
+    return packed(answer);
+}
+
+uint64_t step_by_value(struct panel *p, uint8_t event, uint8_t kind, uint64_t mac, uint64_t session,
+                       const uint8_t *received, size_t count, uint8_t *out, size_t room)
+{
+    struct step_numbers r =
+        measure_step(p->coordinator, p->table, event, kind, mac, session, received, count, out, room);
+    p->coordinator = r.coordinator;
+    p->table = r.table;
+    return r.answer;
+}
+
+uint64_t step_lent(struct panel *p, uint8_t event, uint8_t kind, uint64_t mac, uint64_t session,
+                   const uint8_t *received, size_t count, uint8_t *out, size_t room)
+{
+    return nadrelgos_step(&p->coordinator, p->table.nodes, NADRELGOS_NODES, event, kind, mac, session, received, count,
+                          out, room);
+}
+
+/* ---- field by field: padding has no meaning ---- */
+
+static bool same_node(const ct_node *a, const ct_node *b)
+{
+    return a->kind == b->kind && a->mac == b->mac && a->session == b->session && a->misses == b->misses &&
+           a->owed == b->owed;
+}
+
+static bool same_setup(const struct nadrelgos_settings *a, const struct nadrelgos_settings *b)
+{
+    return memcmp(a->pool, b->pool, sizeof a->pool) == 0 && a->k == b->k && a->subnet == b->subnet &&
+           a->internal == b->internal && a->mac == b->mac && a->session == b->session;
+}
+
+static bool same_kept(const struct nadrelgos_kept *a, const struct nadrelgos_kept *b)
+{
+    return a->message == b->message && a->packet == b->packet && a->kind == b->kind && a->method == b->method &&
+           a->parameter == b->parameter && a->length == b->length &&
+           memcmp(a->payload, b->payload, sizeof a->payload) == 0;
+}
+
+static bool same_panel(const struct panel *a, const struct panel *b)
+{
+    const ct_coordinator *c = &a->coordinator, *d = &b->coordinator;
+    for (size_t i = 0; i < NADRELGOS_NODES; i++)
+        if (!same_node(&a->table.nodes[i], &b->table.nodes[i]))
+            return false;
+    return same_setup(&c->setup, &d->setup) && c->last == d->last && c->held == d->held &&
+           c->stand.stage == d->stand.stage && c->stand.board == d->stand.board &&
+           c->stand.requester == d->stand.requester && same_kept(&c->kept, &d->kept);
+}
+
+/* ---- frames ---- */
+
+static bool same_reading(const uint8_t *bytes, size_t count)
+{
+    struct read_numbers r = measure_read(bytes, count);
+    struct ct_frame f = {.length = 0};
+    ct_refusal refusal = ct_read(bytes, count, &f);
+    return r.refusal == refusal && r.length == f.length && memcmp(&r.fields, &f.header, sizeof f.header) == 0 &&
+           measure_good(bytes, count) == ct_good(bytes, count);
+}
+
+static bool same_writing(const uint8_t *bytes, size_t length, size_t room)
+{
+    uint8_t a[CT_FRAME + 8], b[CT_FRAME + 8];
+    memset(a, 0xEE, sizeof a);
+    memset(b, 0xEE, sizeof b);
+    struct ct_header header;
+    memcpy(&header, bytes, sizeof header);
+    struct write_numbers w = measure_write(header, bytes + 10, length, a, room);
+    ct_refusal refusal = ct_write(&header, bytes + 10, length, b, room);
+    return w.refusal == refusal && w.written == (refusal ? 0 : CT_OVERHEAD + length) && memcmp(a, b, sizeof a) == 0;
+}
+
+static bool same_finding(const uint8_t *bytes, size_t count, size_t budget)
+{
+    struct find_numbers a = measure_find(bytes, count, budget);
+    struct ct_finding b = ct_find(bytes, count, budget);
+    return a.number == b.found && a.start == b.start && a.length == b.length && a.tried == b.tried;
+}
+
+static bool same_wire(void)
+{
+    uint8_t frame[2 * CT_FRAME], capture[CAPTURE];
+    uint64_t seed = 2;
+    for (size_t length = 0; length <= CT_PAYLOAD; length++) {
+        size_t count = make_frame(length, frame);
+        if (!same_reading(frame, count) || !same_writing(frame, length, CT_FRAME) ||
+            !same_writing(frame, length, count - 1))
+            return false;
+        frame[next_random(&seed) % count] ^= 1;
+        if (!same_reading(frame, count) || !same_reading(frame, count - 1))
+            return false;
+    }
+    make_typical(capture);
+    for (size_t at = 0; at < CAPTURE; at++)
+        if (!same_finding(capture + at, CAPTURE - at, CAPTURE) || !same_finding(capture, at, at / 2))
+            return false;
+    make_worst(capture);
+    return same_finding(capture, CAPTURE, CAPTURE) && ct_find(capture, CAPTURE, CAPTURE).found == CT_NOTHING;
+}
+
+/* ---- steps ---- */
+
+/* The same step on both; what they leave must be the same. */
+static bool same_step(struct panel *ours, struct panel *theirs, step_function *step, uint8_t event, uint8_t kind,
+                      uint64_t mac, uint64_t session, const uint8_t *received, size_t count, size_t room)
+{
+    uint8_t a[CT_FRAME + 8], b[CT_FRAME + 8];
+    memset(a, 0xEE, sizeof a);
+    memset(b, 0xEE, sizeof b);
+    uint64_t x = step(ours, event, kind, mac, session, received, count, a, room);
+    uint64_t y = step_counterpart(theirs, event, kind, mac, session, received, count, b, room);
+    return x == y && memcmp(a, b, sizeof a) == 0 && same_panel(ours, theirs);
+}
+
+/* A frame that the wait may take, or nearly. */
+static size_t random_frame(const struct panel *p, uint64_t *seed, uint8_t *out)
+{
+    const ct_coordinator *c = &p->coordinator;
+    const ct_node *nodes = p->table.nodes;
+    size_t board = c->stand.board;
+    if (board < 1 || board > NADRELGOS_NODES)
+        return make_frame(next_random(seed) % (CT_PAYLOAD + 1), out);
+    ct_node n = nodes[board - 1];
+    if (next_random(seed) % 16 == 0)
+        n.mac++;
+    if (next_random(seed) % 16 == 0)
+        n.session++;
+    ct_node one[NADRELGOS_NODES];
+    memcpy(one, nodes, sizeof one);
+    one[board - 1] = n;
+    size_t count;
+    if (next_random(seed) % 3 == 0) {
+        count = make_ack(c, one, board, out);
+    } else {
+        uint8_t payload[CT_PAYLOAD] = {c->setup.internal};
+        size_t length = next_random(seed) % (CT_PAYLOAD + 1);
+        static const uint8_t commands[] = {100, 101, 102, 105, 106, 2, 3, 9, 21, 0, 1, 40};
+        struct ct_header header = {.destination = 255,
+                                   .source = c->setup.pool[board - 1],
+                                   .subnet = 3,
+                                   .method = (uint8_t)(next_random(seed) % 5),
+                                   .parameter1 = commands[next_random(seed) % sizeof commands],
+                                   .parameter2 = 1,
+                                   .kind = n.kind,
+                                   .message = (uint8_t)(1 + next_random(seed) % 130),
+                                   .packet = 9};
+        if (c->stand.stage == CT_STAGE_WAIT_LIST) {
+            header.message = 0x94;
+            length = 1;
+            for (size_t i = 0; i < NADRELGOS_NODES; i++) {
+                payload[1 + i] = nodes[i].kind;
+                if (nodes[i].kind)
+                    length = i + 2;
+            }
+            if (next_random(seed) % 8 == 0)
+                payload[length - 1]++;
+        } else if (c->stand.stage == CT_STAGE_WAIT_FORWARD || c->stand.stage == CT_STAGE_WAIT_FORWARD_ACKED) {
+            header.message = (uint8_t)(c->kept.message + 128);
+        }
+        if (next_random(seed) % 16 == 0)
+            header.source++;
+        if (next_random(seed) % 16 == 0)
+            header.destination = 0;
+        ct_write(&header, payload, length, out, CT_FRAME);
+        count = CT_OVERHEAD + length;
+    }
+    if (next_random(seed) % 16 == 0)
+        out[next_random(seed) % count] ^= 0x10;
+    return count - (next_random(seed) % 32 == 0);
+}
+
+/* One byte of what is lent is changed for one step. */
+static void spoil(struct panel *p, uint64_t *seed)
+{
+    if (next_random(seed) % 2)
+        ((uint8_t *)&p->coordinator)[next_random(seed) % sizeof p->coordinator] ^=
+            (uint8_t)(1 << next_random(seed) % 8);
+    else
+        ((uint8_t *)&p->table)[next_random(seed) % sizeof p->table] ^= (uint8_t)(1 << next_random(seed) % 8);
+}
+
+static bool same_play(step_function *step, size_t boards, size_t steps)
+{
+    struct panel ours, theirs;
+    uint64_t seed = boards;
+    make_panel(&theirs, boards, 0);
+    ours = theirs;
+    for (size_t i = 0; i < steps; i++) {
+        uint8_t received[CT_FRAME + 1];
+        size_t count = random_frame(&theirs, &seed, received);
+        size_t room = next_random(&seed) % 16 ? CT_FRAME : next_random(&seed) % CT_FRAME;
+        uint64_t pick = next_random(&seed) % 16, board = next_random(&seed) % (NADRELGOS_NODES + 4);
+        uint8_t event = pick < 6    ? NADRELGOS_EVENT_TURN
+                        : pick < 13 ? NADRELGOS_EVENT_FRAME
+                        : pick < 14 ? NADRELGOS_EVENT_QUIET
+                                    : NADRELGOS_EVENT_JOIN;
+        if (next_random(&seed) % 8 == 0) {
+            struct panel spoilt = theirs;
+            spoil(&spoilt, &seed);
+            struct panel same = spoilt;
+            if (!same_step(&same, &spoilt, step, event, 3, 0xA0B0C0D0E000 + board, i, received, count, room))
+                return false;
+        }
+        if (!same_step(&ours, &theirs, step, event, (uint8_t)(next_random(&seed) % 7), 0xA0B0C0D0E000 + board, i,
+                       received, count, room))
+            return false;
+    }
+    return true;
+}
+
+/* The steps that are timed: an offer, its ACK, and a quiet in its place. */
+static bool same_round(step_function *step, size_t boards)
+{
+    for (size_t last = 0; last < boards; last++) {
+        uint8_t ack[CT_FRAME];
+        struct panel ours, theirs, waiting;
+        make_panel(&theirs, boards, last);
+        ours = theirs;
+        if (!same_step(&ours, &theirs, step, NADRELGOS_EVENT_TURN, 0, 0, 0, ack, 0, CT_FRAME) ||
+            theirs.coordinator.stand.stage != CT_STAGE_WAIT_OFFER)
+            return false;
+        waiting = theirs;
+        size_t count = make_ack(&theirs.coordinator, theirs.table.nodes, theirs.coordinator.stand.board, ack);
+        if (!same_step(&ours, &theirs, step, NADRELGOS_EVENT_FRAME, 0, 0, 0, ack, count, CT_FRAME) ||
+            theirs.coordinator.stand.stage != CT_STAGE_RESTING)
+            return false;
+        ours = theirs = waiting;
+        if (!same_step(&ours, &theirs, step, NADRELGOS_EVENT_QUIET, 0, 0, 0, ack, 0, CT_FRAME) ||
+            theirs.coordinator.stand.stage != CT_STAGE_RESTING)
+            return false;
+    }
+    return true;
+}
+
+static const uint8_t nothing[1];
+
+/* What a play does not come to by chance: nobody listed, a full table, a board that leaves while joins are held. */
+static bool same_corners(step_function *step)
+{
+    struct panel ours, theirs;
+    make_panel(&theirs, NADRELGOS_NODES, 0);
+    ours = theirs;
+    if (!same_step(&ours, &theirs, step, NADRELGOS_EVENT_JOIN, 2, 1, 1, nothing, 0, 0) ||
+        !same_step(&ours, &theirs, step, NADRELGOS_EVENT_JOIN, 2, 0, 1, nothing, 0, 0))
+        return false;
+    make_panel(&theirs, 0, 0);
+    ours = theirs;
+    if (!same_step(&ours, &theirs, step, NADRELGOS_EVENT_TURN, 0, 0, 0, nothing, 0, CT_FRAME) ||
+        !same_step(&ours, &theirs, step, NADRELGOS_EVENT_JOIN, 2, 1, 1, nothing, 0, 0))
+        return false;
+    for (int i = 0; i < 3; i++) {
+        theirs.table.nodes[0].owed = ours.table.nodes[0].owed = 1;
+        if (!same_step(&ours, &theirs, step, NADRELGOS_EVENT_TURN, 0, 0, 0, nothing, 0, CT_FRAME) ||
+            !same_step(&ours, &theirs, step, NADRELGOS_EVENT_QUIET, 0, 0, 0, nothing, 0, 0))
+            return false;
+    }
+    return theirs.table.nodes[0].kind == 0 && theirs.coordinator.held == 0;
+}
+
+static bool same_setup_of(const uint8_t *pool, size_t k, size_t nodes_count, uint64_t mac)
+{
+    struct panel ours, theirs;
+    make_panel(&theirs, 8, 3);
+    ours = theirs;
+    struct ct_answer answer = ct_setup(&theirs.coordinator, theirs.table.nodes, nodes_count, pool, k, 1, 2, mac, 3);
+    return nadrelgos_setup(&ours.coordinator, ours.table.nodes, nodes_count, pool, k, 1, 2, mac, 3) == packed(answer) &&
+           same_panel(&ours, &theirs);
+}
+
+static bool same_setups(void)
+{
+    uint8_t pool[NADRELGOS_NODES + 1];
+    for (size_t i = 0; i <= NADRELGOS_NODES; i++)
+        pool[i] = (uint8_t)(3 * i + 1);
+    bool same = true;
+    for (size_t k = 0; k <= NADRELGOS_NODES + 1; k++)
+        same = same && same_setup_of(pool, k, NADRELGOS_NODES, 1) && same_setup_of(pool, k, NADRELGOS_NODES, 0) &&
+               same_setup_of(pool, k, 39, 1);
+    pool[7] = pool[6];
+    same = same && same_setup_of(pool, 8, NADRELGOS_NODES, 1);
+    pool[0] = 0;
+    same = same && same_setup_of(pool, 1, NADRELGOS_NODES, 1);
+    pool[0] = 255;
+    return same && same_setup_of(pool, 1, NADRELGOS_NODES, 1);
+}
+
+static bool said(const char *what, bool same)
+{
+    if (!same)
+        printf("bench: %s: the proved code and the counterpart DIFFER\n", what);
+    return same;
+}
+
+static bool same_steps(const char *what, step_function *step)
+{
+    static const size_t boards[] = {1, 8, 40};
+    for (size_t i = 0; i < 3; i++)
+        if (!said(what, same_round(step, boards[i]) && same_play(step, boards[i], 20000)))
+            return false;
+    return said(what, same_corners(step));
+}
+
+bool all_same(void)
+{
+    return said("checksum, read, write, find", same_wire()) && same_steps("step by value", step_by_value) &&
+           same_steps("lent step", step_lent) && said("setup", same_setups());
+}

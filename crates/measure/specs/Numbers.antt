@@ -1,0 +1,57 @@
+-- What a C caller is given: what an answer says, place by place, 0 where it has no such value.
+use Prim.Native.Nat.{ℕ}
+use lib.ListN.{getD}
+use lib.Dec.{eqb}
+use Rattle.ground.specs.Choose.{choose}
+use Rattle.refusal.specs.Refusal.{Told}
+use Rattle.frame.specs.declared.Header.{Header}
+use Rattle.measure.specs.declared.Fields.{Fields}
+use Rattle.measure.specs.declared.ReadNumbers.{ReadNumbers}
+use Rattle.measure.specs.declared.WriteNumbers.{WriteNumbers}
+use Rattle.measure.specs.declared.FindNumbers.{FindNumbers}
+
+-- the value at a place of what is said
+abbrev pub value : Told → ℕ → ℕ
+value t i = getD (t .values) i 0
+
+abbrev pub headerFrom : Fields → Header
+headerFrom f =
+    record {
+      destination = f .destination;
+      source = f .source;
+      subnet = f .subnet;
+      method = f .method;
+      parameter1 = f .parameter1;
+      parameter2 = f .parameter2;
+      kind = f .kind;
+      message = f .message;
+      packet = f .packet;
+    }
+
+abbrev pub readNumbers : Told → ReadNumbers
+readNumbers t =
+    record {
+      refusal = t .number;
+      fields = record {
+        destination = value t 0;
+        source = value t 1;
+        subnet = value t 2;
+        method = value t 3;
+        parameter1 = value t 4;
+        parameter2 = value t 5;
+        kind = value t 6;
+        message = value t 7;
+        packet = value t 8;
+      };
+      length = value t 9;
+    }
+
+abbrev pub writeNumbers : Told → WriteNumbers
+writeNumbers t = record { refusal = t .number; written = value t 0 }
+
+-- Found says start, length and starts tried, Nothing and Spent the starts tried alone
+unfoldable pub findNumbers : Told → FindNumbers
+findNumbers t =
+    choose (eqb (t .number) 1)
+    (record { number = t .number; start = value t 0; length = value t 1; tried = value t 2 })
+    (record { number = t .number; start = 0; length = 0; tried = value t 0 })

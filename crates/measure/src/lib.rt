@@ -1,0 +1,205 @@
+// What the benchmark calls: the proved functions for C, each with its answer as plain numbers.
+use board::Table;
+use coordinator::Coordinator;
+use finder::Finding;
+use frame::Header;
+use frame::Reading;
+use frame::Writing;
+ghost use mathlib.Core.Path.{_≡_};
+ghost use lib.ListN.{length};
+ghost use Rattle.ground.specs.Bytes.{laid};
+ghost use Rattle.fletcher.specs.Fletcher.{isGood};
+ghost use Rattle.frame.specs.Frame.{reading, writing, writtenBytes};
+ghost use Rattle.finder.specs.Finder.{finding};
+ghost use Rattle.steps.specs.Step.{stepOf};
+ghost use Rattle.lent.specs.Numbers.{eventOf, facing, faced};
+ghost use Rattle.measure.specs.Numbers.{headerFrom, readNumbers, writeNumbers, findNumbers};
+
+// A header.
+#[repr(C)]
+pub struct Fields {
+    pub destination: u8,
+    pub source: u8,
+    pub subnet: u8,
+    pub method: u8,
+    pub parameter1: u8,
+    pub parameter2: u8,
+    pub kind: u8,
+    pub message: u8,
+    pub packet: u8,
+}
+
+// A reading: the refusal's number or 0, and the fields and the payload's length, all 0 on a refusal.
+#[repr(C)]
+pub struct ReadNumbers {
+    pub refusal: u8,
+    pub fields: Fields,
+    pub length: usize,
+}
+
+// A writing: the refusal's number or 0, and the count of bytes written.
+#[repr(C)]
+pub struct WriteNumbers {
+    pub refusal: u8,
+    pub written: usize,
+}
+
+// A finding: 1 for Found, 2 for Nothing, 3 for Spent. Start and length are 0 where nothing was found.
+#[repr(C)]
+pub struct FindNumbers {
+    pub number: u8,
+    pub start: usize,
+    pub length: usize,
+    pub tried: usize,
+}
+
+// A step: what it leaves, and its answer as the panel's face for C packs it.
+#[repr(C)]
+pub struct StepNumbers {
+    pub coordinator: Coordinator,
+    pub table: Table,
+    pub answer: u64,
+}
+
+// Whether bytes are good.
+#[no_mangle]
+pub extern "C" fn measure_good(bytes: &[u8]) -> bool
+    ensures { λ r. ⌜ r ≡ isGood (now (bytes .entry)) ⌝ }
+{
+    fletcher::good(bytes)
+}
+
+// Reads bytes as one whole frame.
+#[no_mangle]
+pub extern "C" fn measure_read(bytes: &[u8]) -> ReadNumbers
+    ensures { λ r. ⌜ r ≡ readNumbers (reading (now (bytes .entry))) ⌝ }
+{
+    match frame::read(bytes) {
+        Reading::Frame(header, n) => {
+            let fields = Fields {
+                destination: header.destination,
+                source: header.source,
+                subnet: header.subnet,
+                method: header.method,
+                parameter1: header.parameter1,
+                parameter2: header.parameter2,
+                kind: header.kind,
+                message: header.message,
+                packet: header.packet,
+            };
+            ReadNumbers {
+                refusal: 0,
+                fields: fields,
+                length: n,
+            }
+        }
+        Reading::Refused(refusal) => {
+            let fields = Fields {
+                destination: 0,
+                source: 0,
+                subnet: 0,
+                method: 0,
+                parameter1: 0,
+                parameter2: 0,
+                kind: 0,
+                message: 0,
+                packet: 0,
+            };
+            ReadNumbers {
+                refusal: refusal::number(refusal),
+                fields: fields,
+                length: 0,
+            }
+        }
+    }
+}
+
+fn header_from(fields: Fields) -> Header
+    ensures { λ r. ⌜ r ≡ headerFrom fields ⌝ }
+{
+    Header {
+        destination: fields.destination,
+        source: fields.source,
+        subnet: fields.subnet,
+        method: fields.method,
+        parameter1: fields.parameter1,
+        parameter2: fields.parameter2,
+        kind: fields.kind,
+        message: fields.message,
+        packet: fields.packet,
+    }
+}
+
+// Writes a frame.
+#[no_mangle]
+pub extern "C" fn measure_write(fields: Fields, payload: &[u8], out: &mut [u8]) -> WriteNumbers
+    ensures { λ r. ⌜ (r ≡ writeNumbers (writing (now (payload .entry)) (length (now (out .entry))))) × (now (out .exit) ≡ laid (writtenBytes (headerFrom fields) (now (payload .entry)) (length (now (out .entry)))) (now (out .entry))) ⌝ }
+{
+    match frame::write(header_from(fields), payload, out) {
+        Writing::Written(n) => WriteNumbers {
+            refusal: 0,
+            written: n,
+        },
+        Writing::Refused(refusal) => WriteNumbers {
+            refusal: refusal::number(refusal),
+            written: 0,
+        },
+    }
+}
+
+// Looks for a good frame.
+#[no_mangle]
+pub extern "C" fn measure_find(bytes: &[u8], budget: usize) -> FindNumbers
+    ensures { λ r. ⌜ r ≡ findNumbers (finding (now (bytes .entry)) budget) ⌝ }
+{
+    match finder::find(bytes, budget) {
+        Finding::Found {
+            start,
+            length,
+            tried,
+        } => FindNumbers {
+            number: 1,
+            start: start,
+            length: length,
+            tried: tried,
+        },
+        Finding::Nothing(tried) => FindNumbers {
+            number: 2,
+            start: 0,
+            length: 0,
+            tried: tried,
+        },
+        Finding::Spent(tried) => FindNumbers {
+            number: 3,
+            start: 0,
+            length: 0,
+            tried: tried,
+        },
+    }
+}
+
+// One step by value. The panel's face does the same on records where they stand.
+#[no_mangle]
+pub extern "C" fn measure_step(
+    coordinator: Coordinator,
+    table: Table,
+    event: u8,
+    kind: u8,
+    mac: u64,
+    session: u64,
+    received: &[u8],
+    out: &mut [u8],
+) -> StepNumbers
+    ensures { λ r. ⌜ (facing (r .answer) (r .coordinator) (r .table .nodes) ≡ faced (stepOf coordinator (table .nodes) (eventOf event kind mac session) (now (received .entry)) (length (now (out .entry))))) × (now (out .exit) ≡ laid (stepOf coordinator (table .nodes) (eventOf event kind mac session) (now (received .entry)) (length (now (out .entry))) .bytes) (now (out .entry))) ⌝ }
+{
+    let happened = lent::event_of(event, kind, mac, session);
+    let stepped = stepping::step(coordinator, table, happened, received, out);
+    let after = stepped.coordinator;
+    let nodes = stepped.table;
+    let outcome = stepped.outcome;
+    StepNumbers {
+        coordinator: after,
+        table: nodes,
+        answer: lent::pack(outcome),
+    }
+}
