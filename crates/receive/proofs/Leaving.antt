@@ -1,11 +1,11 @@
 -- What the parts of the step leave, by what their tests and calls gave.
 use Rattle.steps.proofs.Shows.{leaves-as}
-use Prim.Native.Nat.{ℕ, _+_, _≤_}
+use Prim.Native.Nat.{ℕ, _+_, _-_, _≤_}
 use native.Mathlib.Omega.{arith}
 use mathlib.Core.Path.{_≡_, refl, sym, ap, subst, _∙_}
 use mathlib.Core.Bool.{Bool, true, false, not}
 use mathlib.Core.List.{List, [], _∷_, _++_}
-use lib.ListN.{length, length-take}
+use lib.ListN.{length, length-take, take, drop}
 use lib.Dec.{ltb}
 use borrow.Author.Tests.{eq-eqb, ne-eqb}
 use types.Run.{OneOf, miss}
@@ -142,6 +142,10 @@ module _ (c : Coordinator) (t : List Node) (b : List ℕ) (room : ℕ) {f : Bool
       where
         ok : Passed (readRules b)
         ok = gave (readRules b) (fields (headerOf b) ++ lengthByte b ∷ []) (fields g ++ n ∷ []) (sym e ∙ ap told w) .0
+
+-- the part from offset 10, as long as was read, is the payload
+pub part-is : {b : List ℕ} {g : Header} {n : ℕ} → WellRead b g n → take (10 + n - 10) (drop 10 b) ≡ payloadOf b
+part-is {b} {n = n} read = ap (λ (m : ℕ). take m (drop 10 b)) (let e : 10 + n - 10 ≡ n = omega arith in e) ∙ sym (read .part)
 
 -- the payload of a frame that was read is not too long to be kept
 pub payload-small : (b : List ℕ) {r : Reading} {g : Header} {n : ℕ} {p : List ℕ} → told r ≡ reading b → r ≡ Frame g n → p ≡ payloadOf b → length p ≤ 240

@@ -275,8 +275,9 @@ pub fn receive(coordinator: Coordinator, table: Table, received: &[u8], out: &mu
         return steps::refusing(coordinator, table, Refusal::StateUnfit);
     }
     match frame::read(received) {
-        Reading::Frame(header, _) => {
-            listened(coordinator, table, header, frame::payload(received), out)
+        Reading::Frame(header, n) => {
+            let end = 10 + n;
+            listened(coordinator, table, header, &received[10..end], out)
         }
         Reading::Refused(refusal) => steps::refusing(coordinator, table, refusal),
     }

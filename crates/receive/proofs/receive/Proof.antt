@@ -1,8 +1,10 @@
 -- `receive::receive` meets its contract: 22, then the refusals of the reader, then what a good frame gets.
+use native.Mathlib.Omega.{arith}
 use Rattle.steps.proofs.Shows.{leaves-as}
 use denote.Ref.{now}
 use Rattle.refusal.specs.declared.Refusal.the-variants.{StateUnfit}
-use Rattle.receive.proofs.Leaving.{leaves-refused, received-unfit, received-unread, received-read, payload-small}
+use Rattle.frame.proofs.Told.{read-frame}
+use Rattle.receive.proofs.Leaving.{leaves-refused, received-unfit, received-unread, received-read, payload-small, part-is}
 use borrow.Author.Needs.{needs}
 use Rattle.receive.proofs.receive.Statement.{statement}
 use Rattle.receive.proofs.receive.Tie as tie
@@ -24,11 +26,24 @@ read-requires c κs = search needs
 enum-known-header : tie.Need-enum-known-header
 enum-known-header c = search needs
 
-payload-requires : tie.Need-payload-requires
-payload-requires c κs = search needs
+add-end : tie.Need-add-end
+add-end c =
+    let read = read-frame _ (c .before .header .given .1) (c .before .before .before .read .ensures) in
+    omega (arith, read .count, read .bytes .small)
+
+sub-listened : tie.Need-sub-listened
+sub-listened c = omega arith
+
+part-listened-start : tie.Need-part-listened-start
+part-listened-start c = omega arith
+
+part-listened-end : tie.Need-part-listened-end
+part-listened-end c =
+    let read = read-frame _ (c .before .header .given .1) (c .before .before .before .read .ensures) in
+    omega (arith, read .count, read .bytes .long)
 
 listened-requires : tie.Need-listened-requires
-listened-requires c κs = payload-small _ (c .before .before .before .before .before .read .ensures) (c .before .before .before .header .given .1) (c .before .payload .ensures)
+listened-requires c κs = payload-small _ (c .before .before .before .before .before .read .ensures) (c .before .before .before .header .given .1) (part-is (read-frame _ (c .before .before .before .header .given .1) (c .before .before .before .before .before .read .ensures)))
 
 enum-known-refusal : tie.Need-enum-known-refusal
 enum-known-refusal c = search needs
@@ -42,7 +57,7 @@ same-length c = search needs
 returns-2 : tie.Need-returns-2
 returns-2 c =
     let args = c .before .before .before .before .before .before .before .before .before .before .before .before .before .args in
-    leaves-as (c .before .before .listened .result) (now (args .out)) _ (received-read (args .coordinator) (args .table .nodes) (now (args .received)) _ (c .before .before .before .before .before .before .before .before .before .before .fits2 .ensures) (c .before .before .before .before .before .before .before .before .before .if1 .left) (c .before .before .before .before .before .before .before .before .read .ensures) (c .before .before .before .before .before .before .header .given .1)) (rw (c .before .before .before .before .payload .ensures) at (c .before .before .listened .ensures))
+    leaves-as (c .before .before .listened .result) (now (args .out)) _ (received-read (args .coordinator) (args .table .nodes) (now (args .received)) _ (c .before .before .before .before .before .before .before .before .before .before .fits2 .ensures) (c .before .before .before .before .before .before .before .before .before .if1 .left) (c .before .before .before .before .before .before .before .before .read .ensures) (c .before .before .before .before .before .before .header .given .1)) (rw (part-is (read-frame _ (c .before .before .before .before .before .before .header .given .1) (c .before .before .before .before .before .before .before .before .read .ensures))) at (c .before .before .listened .ensures))
 
 returns-3 : tie.Need-returns-3
 returns-3 c =
@@ -58,7 +73,10 @@ receive-spec =
     returns
     read-requires
     enum-known-header
-    payload-requires
+    add-end
+    sub-listened
+    part-listened-start
+    part-listened-end
     listened-requires
     enum-known-refusal
     refusing-requires-2
