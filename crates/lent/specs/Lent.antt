@@ -10,7 +10,7 @@ use Rattle.board.specs.Node.{none}
 use Rattle.coordinator.specs.declared.Coordinator.{Coordinator}
 use Rattle.steps.specs.declared.Event.{Event}
 use Rattle.steps.specs.declared.Outcome.{Outcome}
-use Rattle.steps.specs.After.{After, Shown, told, refused}
+use Rattle.steps.specs.After.{After, Shown, told, leaving, refused}
 use Rattle.steps.specs.Start.{startOf}
 use Rattle.steps.specs.Step.{stepOf}
 
@@ -34,12 +34,4 @@ countedSetup c t n addresses subnet internal mac session = counted n c t (startO
 
 -- what the host is shown: the outcome that is returned, and the coordinator and the records where they stand
 abbrev pub inPlace : Outcome → Coordinator → List Node → Shown
-inPlace r c ys =
-    record {
-      coordinator = c;
-      nodes = ys;
-      says = told (r .answer);
-      written = r .written;
-      joined = r .joined;
-      dropped = r .dropped;
-    }
+inPlace r c ys = leaving c ys (told (r .answer)) (r .written) (r .joined) (r .dropped)

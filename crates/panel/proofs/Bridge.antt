@@ -1,7 +1,7 @@
--- From the lent forms to the rest: a lent step is the by-value step, and a series of lent steps is a series of the panel of demand 3. So every theorem
+-- From the lent forms to the rest: a lent step is the by-value step, a lent setup is a fresh start, and a series of lent steps is a series of the panel of demand 3. So every theorem
 -- about that panel (crates lasting, staying, turns) holds of the coordinator and the records that a host lends, with no second proof.
 use Prim.Native.Nat.{ℕ}
-use mathlib.Core.Path.{_≡_, refl, sym, ap, _∙_}
+use mathlib.Core.Path.{_≡_, refl, sym, ap, subst, _∙_}
 use mathlib.Core.List.{List, [], _∷_}
 use lib.ListN.{length}
 use denote.Ref.{RefT, now}
@@ -9,13 +9,13 @@ use Rattle.board.specs.declared.Node.{Node}
 use Rattle.coordinator.specs.declared.Coordinator.{Coordinator}
 use Rattle.steps.specs.declared.Outcome.{Outcome}
 use Rattle.steps.specs.declared.Stepped.{Stepped}
-use Rattle.steps.specs.After.{Shown, shows}
-use Rattle.series.specs.Series.{Input, World, left, after}
+use Rattle.steps.specs.After.{Shown, told, rests, shows}
+use Rattle.series.specs.Series.{Input, World, left, Fresh, fresh-start, after}
 use Rattle.series.specs.Ours.{ours}
 use Rattle.lent.specs.Lent.{inPlace}
 use Rattle.lent.proofs.InPlace.{same-in-place}
 use Rattle.stepping.proofs.step.Reads as by-value
-use Rattle.panel.proofs.Unique.{Steps, output, Says}
+use Rattle.panel.proofs.Unique.{Setups, set-up, SaysSetup, Steps, output, Says}
 
 -- a lent step answers, and leaves in coordinator, records and output, what the step by value gives on the same coordinator, records and output
 pub is-by-value : (κs : _) (a s : Steps) (r : Outcome) (q : Stepped) (t : _)
@@ -29,6 +29,15 @@ world a = record { coordinator = now (a .0); nodes = now (a .1 .0) }
 
 abbrev input : Steps → Input
 input a = record { event = a .1 .1 .0; received = now (a .1 .1 .1 .0); room = length (output a) }
+
+-- a lent setup that is taken is a fresh start of demand 3, with as many addresses as it was given
+pub is-fresh : (a s : Setups) (r : Outcome) → SaysSetup a r s → told (r .answer) ≡ rests → Fresh ours (length (now (a .1 .1 .0))) (record { coordinator = now (s .0); nodes = now (s .1 .0) })
+is-fresh a s r e taken =
+    subst (Fresh ours (length (now (a .1 .1 .0)))) (sym same)
+    (fresh-start (record { coordinator = now (a .0); nodes = now (a .1 .0) }) (now (a .1 .1 .0)) (a .1 .1 .1 .0) (a .1 .1 .1 .1 .0) (a .1 .1 .1 .1 .1 .0) (a .1 .1 .1 .1 .1 .1 .0) refl (sym (ap (λ (x : Shown). x .says) e) ∙ taken))
+  where
+    same : record { coordinator = now (s .0); nodes = now (s .1 .0) } ≡ left (set-up a)
+    same i = record { coordinator = e i .coordinator; nodes = e i .nodes }
 
 -- one lent step on a world leaves another, with an answer
 abbrev Stepping : World → Input → Outcome → World → Type 0

@@ -48,12 +48,16 @@ same-facing : (n m : ℕ) (c d : Coordinator) (ys zs : List Node) → facing n c
 same-facing n m c d ys zs e = (ap (λ (f : Faced). f .answer) e, (ap (λ (f : Faced). f .coordinator) e, ap (λ (f : Faced). f .nodes) e))
 
 -- what setup is passed, by Rattle and by C
-abbrev Setups : Type 0
+abbrev pub Setups : Type 0
 Setups = RefT Coordinator × (RefT (List Node) × (RefT (List ℕ) × (ℕ × (ℕ × (ℕ × (ℕ × Unit {0}))))))
 
 -- what a setup on these arguments leaves, by the definition
-abbrev set-up : Setups → After
+abbrev pub set-up : Setups → After
 set-up a = startOf (now (a .0)) (now (a .1 .0)) (now (a .1 .1 .0)) (a .1 .1 .1 .0) (a .1 .1 .1 .1 .0) (a .1 .1 .1 .1 .1 .0) (a .1 .1 .1 .1 .1 .1 .0)
+
+-- what a setup says of its answer r and of what it was passed, at exit
+abbrev pub SaysSetup : Setups → Outcome → Setups → Type 0
+SaysSetup a r s = inPlace r (now (s .0)) (now (s .1 .0)) ≡ shows (set-up a)
 
 -- what a step is passed
 abbrev pub Steps : Type 0
@@ -88,7 +92,7 @@ module _ {M : Type 1} (𝓤 : URA M) (H : Heap 𝓤) (A : Atoms 𝓤) (at-mem : 
   pub unique-setup : (κs : Lft × (Lft × (Lft × Unit {0}))) (a : Setups) (r q : Outcome) (s t : Setups)
       → ent 𝓤 (sep 𝓤 (setup.clauses 𝓤 H A at-mem run κs a .ensures tt r s) (setup.clauses 𝓤 H A at-mem run κs a .ensures tt q t)) (fact 𝓤 (Same r q (now (s .0)) (now (t .0)) (now (s .1 .0)) (now (t .1 .0))))
   unique-setup κs a r q s t =
-      two-facts 𝓤 (inPlace r (now (s .0)) (now (s .1 .0)) ≡ shows (set-up a)) (inPlace q (now (t .0)) (now (t .1 .0)) ≡ shows (set-up a)) _ (λ p p′. same-in-place r q _ _ _ _ (p ∙ sym p′))
+      two-facts 𝓤 (SaysSetup a r s) (SaysSetup a q t) _ (λ p p′. same-in-place r q _ _ _ _ (p ∙ sym p′))
 
   pub unique-step : (κs : Lft × (Lft × (Lft × (Lft × Unit {0})))) (a : Steps) (r q : Outcome) (s t : Steps)
       → ent 𝓤 (sep 𝓤 (step.clauses 𝓤 H A at-mem run κs a .ensures tt r s) (step.clauses 𝓤 H A at-mem run κs a .ensures tt q t)) (fact 𝓤 (Same r q (now (s .0)) (now (t .0)) (now (s .1 .0)) (now (t .1 .0)) × (output s ≡ output t)))
