@@ -51,7 +51,7 @@ static size_t read_proved(struct work *w, size_t times)
     size_t sum = 0;
     while (times-- > 0) {
         struct read_numbers r = measure_read(w->bytes, w->count);
-        sum += r.fields.message;
+        sum += r.header.message;
     }
     return sum;
 }

@@ -10,7 +10,7 @@ struct table {
 
 struct read_numbers {
     uint8_t refusal;
-    struct ct_header fields;
+    struct ct_header header;
     size_t length;
 };
 
@@ -32,7 +32,7 @@ struct step_numbers {
 
 bool measure_good(const uint8_t *bytes, size_t count);
 struct read_numbers measure_read(const uint8_t *bytes, size_t count);
-struct write_numbers measure_write(struct ct_header fields, const uint8_t *payload, size_t length, uint8_t *out,
+struct write_numbers measure_write(struct ct_header header, const uint8_t *payload, size_t length, uint8_t *out,
                                    size_t room);
 struct find_numbers measure_find(const uint8_t *bytes, size_t count, size_t budget);
 struct step_numbers measure_step(struct nadrelgos_coordinator coordinator, struct table table, uint8_t event,

@@ -92,7 +92,7 @@ static bool same_reading(const uint8_t *bytes, size_t count)
     struct read_numbers r = measure_read(bytes, count);
     struct ct_frame f = {.length = 0};
     ct_refusal refusal = ct_read(bytes, count, &f);
-    return r.refusal == refusal && r.length == f.length && memcmp(&r.fields, &f.header, sizeof f.header) == 0 &&
+    return r.refusal == refusal && r.length == f.length && memcmp(&r.header, &f.header, sizeof f.header) == 0 &&
            measure_good(bytes, count) == ct_good(bytes, count);
 }
 

@@ -9,6 +9,7 @@ ghost use Rattle.ground.specs.Bytes.{laid};
 ghost use Rattle.frame.specs.Frame.{fields, headerOf, told, reading, payloadOf, toldWritten, writing, writtenBytes};
 
 // The nine bytes before the payload length, in the order of the wire.
+#[repr(C)]
 pub struct Header {
     pub destination: u8,
     pub source: u8,

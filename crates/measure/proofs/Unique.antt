@@ -7,7 +7,7 @@ use denote.Ref.{RefT, now}
 use Rattle.board.specs.declared.Table.{Table}
 use Rattle.coordinator.specs.declared.Coordinator.{Coordinator}
 use Rattle.lent.specs.Numbers.{facing}
-use Rattle.measure.specs.declared.Fields.{Fields}
+use Rattle.frame.specs.declared.Header.{Header}
 use Rattle.measure.specs.declared.ReadNumbers.{ReadNumbers}
 use Rattle.measure.specs.declared.WriteNumbers.{WriteNumbers}
 use Rattle.measure.specs.declared.FindNumbers.{FindNumbers}
@@ -26,7 +26,7 @@ unique-measure-read κs a s t r q p p′ = p ∙ sym p′
 
 -- what is passed to the writer, and the same at its exit
 abbrev Written : Type 0
-Written = Fields × (RefT (List ℕ) × (RefT (List ℕ) × Unit {0}))
+Written = Header × (RefT (List ℕ) × (RefT (List ℕ) × Unit {0}))
 
 pub unique-measure-write : (κs : _) (a s t : Written) (r q : WriteNumbers) → write.Post κs a r s → write.Post κs a q t → (r ≡ q) × (now (s .1 .1 .0) ≡ now (t .1 .1 .0))
 unique-measure-write κs a s t r q p p′ = (p .0 ∙ sym (p′ .0), p .1 ∙ sym (p′ .1))

@@ -4,8 +4,6 @@ use lib.ListN.{getD}
 use lib.Dec.{eqb}
 use Rattle.ground.specs.Choose.{choose}
 use Rattle.refusal.specs.Refusal.{Told}
-use Rattle.frame.specs.declared.Header.{Header}
-use Rattle.measure.specs.declared.Fields.{Fields}
 use Rattle.measure.specs.declared.ReadNumbers.{ReadNumbers}
 use Rattle.measure.specs.declared.WriteNumbers.{WriteNumbers}
 use Rattle.measure.specs.declared.FindNumbers.{FindNumbers}
@@ -14,25 +12,11 @@ use Rattle.measure.specs.declared.FindNumbers.{FindNumbers}
 abbrev pub value : Told → ℕ → ℕ
 value t i = getD (t .values) i 0
 
-abbrev pub headerFrom : Fields → Header
-headerFrom f =
-    record {
-      destination = f .destination;
-      source = f .source;
-      subnet = f .subnet;
-      method = f .method;
-      parameter1 = f .parameter1;
-      parameter2 = f .parameter2;
-      kind = f .kind;
-      message = f .message;
-      packet = f .packet;
-    }
-
 abbrev pub readNumbers : Told → ReadNumbers
 readNumbers t =
     record {
       refusal = t .number;
-      fields = record {
+      header = record {
         destination = value t 0;
         source = value t 1;
         subnet = value t 2;

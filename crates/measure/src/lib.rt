@@ -13,27 +13,13 @@ ghost use Rattle.frame.specs.Frame.{reading, writing, writtenBytes};
 ghost use Rattle.finder.specs.Finder.{finding};
 ghost use Rattle.steps.specs.Step.{stepOf};
 ghost use Rattle.lent.specs.Numbers.{eventOf, facing, faced};
-ghost use Rattle.measure.specs.Numbers.{headerFrom, readNumbers, writeNumbers, findNumbers};
+ghost use Rattle.measure.specs.Numbers.{readNumbers, writeNumbers, findNumbers};
 
-// A header.
-#[repr(C)]
-pub struct Fields {
-    pub destination: u8,
-    pub source: u8,
-    pub subnet: u8,
-    pub method: u8,
-    pub parameter1: u8,
-    pub parameter2: u8,
-    pub kind: u8,
-    pub message: u8,
-    pub packet: u8,
-}
-
-// A reading: the refusal's number or 0, and the fields and the payload's length, all 0 on a refusal.
+// A reading: the refusal's number or 0, and the header and the payload's length, all 0 on a refusal.
 #[repr(C)]
 pub struct ReadNumbers {
     pub refusal: u8,
-    pub fields: Fields,
+    pub header: Header,
     pub length: usize,
 }
 
@@ -76,25 +62,14 @@ pub extern "C" fn measure_read(bytes: &[u8]) -> ReadNumbers
 {
     match frame::read(bytes) {
         Reading::Frame(header, n) => {
-            let fields = Fields {
-                destination: header.destination,
-                source: header.source,
-                subnet: header.subnet,
-                method: header.method,
-                parameter1: header.parameter1,
-                parameter2: header.parameter2,
-                kind: header.kind,
-                message: header.message,
-                packet: header.packet,
-            };
             ReadNumbers {
                 refusal: 0,
-                fields: fields,
+                header: header,
                 length: n,
             }
         }
         Reading::Refused(refusal) => {
-            let fields = Fields {
+            let header = Header {
                 destination: 0,
                 source: 0,
                 subnet: 0,
@@ -107,35 +82,19 @@ pub extern "C" fn measure_read(bytes: &[u8]) -> ReadNumbers
             };
             ReadNumbers {
                 refusal: refusal::number(refusal),
-                fields: fields,
+                header: header,
                 length: 0,
             }
         }
     }
 }
 
-fn header_from(fields: Fields) -> Header
-    ensures { λ r. ⌜ r ≡ headerFrom fields ⌝ }
-{
-    Header {
-        destination: fields.destination,
-        source: fields.source,
-        subnet: fields.subnet,
-        method: fields.method,
-        parameter1: fields.parameter1,
-        parameter2: fields.parameter2,
-        kind: fields.kind,
-        message: fields.message,
-        packet: fields.packet,
-    }
-}
-
 // Writes a frame.
 #[no_mangle]
-pub extern "C" fn measure_write(fields: Fields, payload: &[u8], out: &mut [u8]) -> WriteNumbers
-    ensures { λ r. ⌜ (r ≡ writeNumbers (writing (now (payload .entry)) (length (now (out .entry))))) × (now (out .exit) ≡ laid (writtenBytes (headerFrom fields) (now (payload .entry)) (length (now (out .entry)))) (now (out .entry))) ⌝ }
+pub extern "C" fn measure_write(header: Header, payload: &[u8], out: &mut [u8]) -> WriteNumbers
+    ensures { λ r. ⌜ (r ≡ writeNumbers (writing (now (payload .entry)) (length (now (out .entry))))) × (now (out .exit) ≡ laid (writtenBytes header (now (payload .entry)) (length (now (out .entry)))) (now (out .entry))) ⌝ }
 {
-    match frame::write(header_from(fields), payload, out) {
+    match frame::write(header, payload, out) {
         Writing::Written(n) => WriteNumbers {
             refusal: 0,
             written: n,

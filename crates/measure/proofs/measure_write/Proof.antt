@@ -6,9 +6,6 @@ use borrow.Author.Needs.{needs}
 use Rattle.measure.proofs.measure_write.Statement.{statement}
 use Rattle.measure.proofs.measure_write.Tie as tie
 
-header-from-requires : tie.Need-header-from-requires
-header-from-requires c κs = search needs
-
 write-requires : tie.Need-write-requires
 write-requires c κs = search needs
 
@@ -25,19 +22,18 @@ same-length : tie.Need-same-length
 same-length c = search needs
 
 returns : tie.Need-returns
-returns c = (ap writeNumbers (ap toldWritten (sym (c .before .n .given .1)) ∙ c .before .before .before .before .before .write .ensures .0), rw (c .before .before .before .before .before .before .before .header-from .ensures) at (c .before .before .before .before .before .write .ensures .1))
+returns c = (ap writeNumbers (ap toldWritten (sym (c .before .n .given .1)) ∙ c .before .before .before .before .before .write .ensures .0), c .before .before .before .before .before .write .ensures .1)
 
 same-length-2 : tie.Need-same-length-2
 same-length-2 c = search needs
 
 returns-2 : tie.Need-returns-2
-returns-2 c = (rw (c .number .ensures) (ap writeNumbers (ap toldWritten (sym (c .before .before .refusal .given .1)) ∙ c .before .before .before .before .before .before .write .ensures .0)), rw (c .before .before .before .before .before .before .before .before .header-from .ensures) at (c .before .before .before .before .before .before .write .ensures .1))
+returns-2 c = (rw (c .number .ensures) (ap writeNumbers (ap toldWritten (sym (c .before .before .refusal .given .1)) ∙ c .before .before .before .before .before .before .write .ensures .0)), c .before .before .before .before .before .before .write .ensures .1)
 
 pub measure-write-spec : {M : Type 1} → statement M
 measure-write-spec =
     tie.close
     (tie.spec
-    header-from-requires
     write-requires
     enum-known-n
     enum-known-refusal
