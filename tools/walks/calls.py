@@ -41,8 +41,8 @@ class Callee:
                      f'exE 𝓤 _ (λ ws. snd∗ 𝓤 (sem 𝓤 H A ({lasts})) (fact 𝓤 ({fact})))', ' '.join(name for name, _ in over))
 
     def asks(self, tokens, arguments, late=None):
-        """the arguments of a call, their values and what is owned of them; the ghost that the contract is used at; and that what it asks follows from the tokens
-        and what is owned. All this is over the argument, if there is one, that is not there before the call."""
+        """what a call asks: the arguments, their values and what is owned of them, the ghost that the contract is used at, and that its precondition follows
+        from the tokens and what is owned. All this is over the argument, if there is one, that is known only on the way."""
         name, contract = self.name, f'{self.contract} {G}'
         term, value, over = (late.term, late.value, f'{late.term} {late.value}') if late else ('', '', '')
         of_term, of_value, binders = (f'{late.type} → ', 'Val → ', f'({term} : {late.type}) ({value} : Val) → ') if late else ('', '', '')
@@ -58,8 +58,8 @@ class Callee:
 
 
 class Call:
-    """A call in a walk: the ghost `to` that the callee's contract is used at, the lemma `goes` that what it asks is there, and the arguments, tokens and lifetimes of
-    the call, which may have none of the last two."""
+    """A call in a walk: the ghost `to` that the callee's contract is used at, the lemma `goes` that its precondition follows, and the call's arguments, tokens
+    and lifetimes. A plain call has none of the last two."""
 
     def __init__(self, callee, to, goes, arguments, tokens=None, lifetimes='tt'):
         self.callee, self.contract = callee, f'{callee.contract} {G}'
@@ -88,7 +88,8 @@ class Call:
     def hear_of(self, w, ends, types, fact, proof):
         """what is ensured is a fact about what the arguments ended as, and `lasts` is what is left of them"""
         lasts = self.callee.lasts(self.lifetimes, self.arguments, ends)
-        w.use(['ensured'], f'use1 W (some (λ ({ends} : {types}). ‵ ({lasts}) ⊛ raw (fact 𝓤 ({fact})))) (id⊢ 𝓤 _) $ pick ! (λ {ends}. split ! $', 'lasts', 'fact')
+        w.use(['ensured'], f'use1 W (some (λ ({ends} : {types}). ‵ ({lasts}) ⊛ raw (fact 𝓤 ({fact})))) (id⊢ 𝓤 _) $ pick ! (λ {ends}. split ! $',
+              'lasts', 'fact')
         w.use(['fact'], f'heard ! ({fact}) (λ {proof}.')
 
     def take_back(self, w, result, of, value, proof):

@@ -22,13 +22,14 @@ EVENT = Enum('Event', 'E')
 
 
 class ForC(Shape):
-    """a function for C, by what STEP it calls"""
+    """a function for C; it calls STEP"""
     alias, tokens_apart = 'face′', False
 
     def __init__(self, function, calls, parameters, event=True, out=True, **facts):
-        self.event_of = Callee('event_of', 'hear′', 'Hear', 'hear') if event else None
-        self.step, self.pack = Callee(calls, 'step′', 'Step', 'step'), Callee('pack', 'pack′', 'Pack', 'pack')
         coordinator, nodes, output = Coordinator(), Nodes(), Output() if out else None
+        self.event_of = Callee('event_of', 'hear′', 'Hear', 'hear') if event else None
+        self.step = Callee(calls, 'step′', 'Step', 'step')
+        self.pack = Callee('pack', 'pack′', 'Pack', 'pack')
         super().__init__(function, [coordinator, nodes], parameters, [output], [self.event_of, self.step, self.pack], facts)
         # the event, what it is made of, and what STEP is passed
         self.event = Value('e', EVENT, 'e', 'v', 'ise') if event else None
@@ -43,7 +44,8 @@ class ForC(Shape):
 
     def head(self):
         """first line and imports"""
-        return self.imports('what C calls. It lends on what it is lent, for good.', [NODE, COORDINATOR, OUTCOME] + [EVENT] * bool(self.event), first=['told', 'packed'])
+        rows = [NODE, COORDINATOR, OUTCOME] + [EVENT] * bool(self.event)
+        return self.imports('what C calls. It lends on what it is lent, for good.', rows, first=['told', 'packed'])
 
     def known(self):
         """the number of an outcome"""
@@ -110,12 +112,11 @@ class ForC(Shape):
     def call_step(self, w):
         """let o = STEP(coordinator, nodes, e, .., out)"""
         w.say(f'-- `{self.step.function}`')
-        w.address('coordinator.ref', w.through('coordinator'))
-        for x in self.slices:
+        for x in self.outer:
             x.reborrow(w)
         self.gather(w, self.passed)
         event, over = ('e', 'e v') if self.event else ('', '')
-        call = Call(self.step, at('to-step', over), at('goes-step', over), at('step-args', event), 'toks', self.lifetimes)
+        call = Call(self.step, at('to-step', over), at('goes-step', over), at('step-args', event), tokens='toks', lifetimes=self.lifetimes)
         call.ask(w)
         call.make(w, self.passed.read(w), 'y', OUTCOME, 'z')
         call.hear_of(w, 'ws', self.passed.last_types(), self.fact('said', y='y', **self.ends), 'ey')

@@ -13,8 +13,8 @@ The coordinator and the output may be absent. The nodes are shared with `load` f
 nodes to `store`; the coordinator's borrow is open from the read to the write.
 
 In the facts h, ys and os are coordinator, nodes and output at entry, k, zs and us what they end as, t is the table that was loaded and r what PURE gave; the
-parameters between are e0, xs1, .. by their place. `gives` is what PURE ensures; `said` what FUNCTION ensures of its answer y; `law` is the lemma that leads from
-the one to the other, with its arguments: et is what `load` ensures, er what PURE ensures, ez what `store` ensures, forty that the table of r has forty nodes."""
+parameters between are e0, xs1, .. by their place. `gives` is what PURE ensures; `said` what FUNCTION ensures of its answer y; `law` is the lemma that leads
+from the one to the other, with its arguments: et is what `load` ensures, er what PURE ensures, ez what `store` ensures, forty that r has forty nodes."""
 from calls import Call, Callee
 from lent import KeptCoordinator, Output, SharedNodes
 from parameters import Arguments, Value
@@ -24,25 +24,32 @@ from terms import ABOUT, G, abbrev, lemma, nest, nth
 
 
 class InPlace(Shape):
-    """a function in place, by what PURE it calls, the type of the result of that, and the field of it that is the answer, with its type"""
+    """a function in place; it calls PURE, which gives a result, and answers with a field of that, of a type"""
     alias = 'step′'
 
     def __init__(self, function, calls, parameters, result, answer, coordinator=True, out=True, **facts):
-        self.load, self.pure, self.store = Callee('load', 'load′', 'Load', 'load'), Callee(calls, 'pure', 'Pure', 'pure'), Callee('store', 'store′', 'Store', 'store')
-        self.coordinator, self.nodes, self.output = KeptCoordinator('r .coordinator') if coordinator else None, SharedNodes(), Output() if out else None
+        self.coordinator = KeptCoordinator('r .coordinator') if coordinator else None
+        self.nodes = SharedNodes()
+        self.output = Output() if out else None
+        self.load = Callee('load', 'load′', 'Load', 'load')
+        self.pure = Callee(calls, 'pure', 'Pure', 'pure')
+        self.store = Callee('store', 'store′', 'Store', 'store')
         super().__init__(function, [self.coordinator, self.nodes], parameters, [self.output], [self.load, self.pure, self.store], facts)
-        # what PURE gives, and its fields in their order
-        self.result, self.answer, self.field = Struct(result, 'S'), U64 if answer[1] == 'u64' else Struct(answer[1], 'An'), answer[0]
-        self.fields = ['coordinator'] * bool(coordinator) + ['table', self.field]
+        # what PURE gives: its fields in their order, the last of which is the answer
+        self.field, answer_type = answer
+        self.fields = ['coordinator'] * coordinator + ['table', self.field]
+        self.result, self.answer = Struct(result, 'S'), U64 if answer_type == 'u64' else Struct(answer_type, 'An')
         # what PURE is passed
-        self.table, count = Value('t', TABLE, 't', 'v', 'ist'), Value('n', USIZE, 'length ys', 'vint w64 (length ys)', '(refl, room₁ .0)')
         copy = Value('coordinator.copy', COORDINATOR, 'h', 'coord h', 'isc') if coordinator else None
+        self.table = Value('t', TABLE, 't', 'v', 'ist')
+        count = Value('n', USIZE, 'length ys', 'vint w64 (length ys)', '(refl, room₁ .0)')
         self.passed = Arguments([copy, self.table, count, *self.between, self.output])
 
     def locals(self):
         """the locals after the parameters, in the compiler's order: those of the code, then what passes on the arguments of `load`, PURE and `store`"""
+        load, store = ['load.ref', 'load.slice'], ['unit', 'store.ref', 'store.slice']
         pure = ['coordinator.copy'] * bool(self.coordinator) + self.passed.temporaries()
-        return ['n', 't', 'r'] + ['load.ref', 'load.slice'] + pure + ['unit', 'store.ref', 'store.slice']
+        return ['n', 't', 'r'] + load + pure + store
 
     def head(self):
         """first line and imports"""
@@ -52,12 +59,13 @@ class InPlace(Shape):
 
     def known(self):
         """what owning the result of PURE says of its fields"""
-        owns, text = f'(r : {self.result.type}) (vs : List Val) → Is S.the-row r vs', f'-- what a `{self.result.type}` owns says of its fields\n'
+        text = f'-- what a `{self.result.type}` owns says of its fields\n'
+        owned, owed = f'(r : {self.result.type}) (vs : List Val) → Is S.the-row r vs', 'LL.owed S.the-type S′.the-laws r vs is'
         about = {'coordinator': ('is-coordinator', COORDINATOR), 'table': ('is-table', TABLE), self.field: ('is-answer', self.answer)}
         for i, field in enumerate(self.fields):
             name, of = about[field]
-            text += lemma(name, f'{owns} → Is {of.row} (r .{field}) ({of.listed(f"r .{field}")})', nth('LL.owed S.the-type S′.the-laws r vs is', i), 'r vs is', 0)
-        return text + lemma('forty', f'{owns} → length (r .table .nodes) ≡ 40', 'is-nodes (r .table) _ (is-table r vs is) .1 .0 .1', 'r vs is', 0)
+            text += lemma(name, f'{owned} → Is {of.row} (r .{field}) ({of.listed(f"r .{field}")})', nth(owed, i), 'r vs is', 0)
+        return text + lemma('forty', f'{owned} → length (r .table .nodes) ≡ 40', 'is-nodes (r .table) _ (is-table r vs is) .1 .0 .1', 'r vs is', 0)
 
     def contracts(self):
         """the contracts that the proof cites, and as a fact what `load` ensures"""
@@ -118,7 +126,8 @@ class InPlace(Shape):
         self.nodes.reborrow(w, 'load')
         w.say('-- `load`: the nodes are shared for a lifetime ν of the call')
         self.nodes.share_out(w)
-        call = Call(self.load, 'to-load ν δ', 'goes-load ν δ', '(x δ, tt)', '(‵ (flft (ν ∷ []) fullShare) ⊛ ‵ ftrue)', '(ν ∷ [], tt)')
+        tokens, lifetimes = '(‵ (flft (ν ∷ []) fullShare) ⊛ ‵ ftrue)', '(ν ∷ [], tt)'
+        call = Call(self.load, 'to-load ν δ', 'goes-load ν δ', '(x δ, tt)', tokens, lifetimes)
         call.ask(w, 'ν', 'shared nodes')
         call.make(w, w.operands([w.read('load.slice')]), 't', TABLE, 'v')
         call.hear(w, 't .nodes ≡ loaded ys', f'load-of {G} (ν ∷ []) (x δ) t', 'et')
@@ -132,7 +141,7 @@ class InPlace(Shape):
         """*coordinator"""
         w.say('-- the coordinator is read, and its borrow is left open')
         self.coordinator.open(w, 'isc')
-        w.copy('coordinator.copy', f'load ! (from ! ({w.through("coordinator")})) (look ! {w.at("record")} refl)', COORDINATOR.typed('h', 'isc'))
+        w.copy('coordinator.copy', self.coordinator.read(w), COORDINATOR.typed('h', 'isc'))
 
     def call_pure(self, w):
         """let r = PURE(*coordinator, t, n, .., out)"""
@@ -153,10 +162,11 @@ class InPlace(Shape):
 
     def call_store(self, w):
         """store(nodes, r.table)"""
-        nodes, tokens = self.nodes, '(‵ (flft κ₁ q₁) ⊛ ‵ ftrue)'
+        nodes = self.nodes
         nodes.reborrow(w, 'store')
         w.say('-- `store`: the nodes are given to it for good')
-        call = Call(self.store, 'to-store (r .table)', 'goes-store (r .table) (is-table r _ isr)', '(x γ₁, (r .table, tt))', tokens, '(κ₁, tt)')
+        goes, tokens, lifetimes = 'goes-store (r .table) (is-table r _ isr)', '(‵ (flft κ₁ q₁) ⊛ ‵ ftrue)', '(κ₁, tt)'
+        call = Call(self.store, 'to-store (r .table)', goes, '(x γ₁, (r .table, tt))', tokens, lifetimes)
         call.ask(w, nodes.lifetime, nodes.held)
         call.make(w, w.operands([w.read('store.slice'), w.field('r', self.fields.index('table'))]), 'j', NOTHING, 'z')
         call.hear_of(w, 'zs', 'List Node × (Unit {0} × Unit {0})', 'zs .0 ≡ stored (r .table .nodes) ys', 'ez')
@@ -168,6 +178,5 @@ class InPlace(Shape):
     def write_coordinator(self, w):
         """*coordinator = r.coordinator"""
         w.say('-- the coordinator is written, and its borrow closed')
-        value, typed = f'of-opd ! ({w.field("r", 0)})', COORDINATOR.typed('r .coordinator', 'is-coordinator r _ isr')
-        w.say(f'assigns ! ({value}) (from ! ({w.through("coordinator")})) (store ! {w.at("record")} refl {typed}) $')
+        self.coordinator.write(w, w.field('r', 0), COORDINATOR.typed('r .coordinator', 'is-coordinator r _ isr'))
         self.coordinator.close(w, 'is-coordinator r _ isr')

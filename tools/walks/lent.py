@@ -1,6 +1,6 @@
-"""The parameters that are lent for writing: the coordinator, the nodes and the output."""
-from parameters import Borrow, Slice, marked
-from rows import COORDINATOR, NODE, U8
+"""What is lent for writing: coordinator, nodes and output as parameters, and the locals that a function lends itself."""
+from parameters import Borrow, Place, Slice, marked
+from rows import ARRAY, COORDINATOR, NODE, U8
 from terms import abbrev, grouped, nth, token
 
 
@@ -11,8 +11,8 @@ class LentSlice(Slice):
     def __init__(self, name, place, term, value, of, now, room, end, kept):
         super().__init__(name, place, term, value, of, now, room)
         self.last, self.end, self.kept, self.length = f'List {of.type}', end, kept, f'l{end[0]}'
-        self.final = [(self.ended, f'‵ (finally {of.row} {place.name} {end})')]
         self.temporaries, self.passed = (f'{name}.ref', f'{name}.slice'), f'{name}.slice'
+        self.final = [(self.ended, f'‵ (finally {of.row} {place.name} {end})')]
 
     def stand(self, i, j, count):
         """it is given up"""
@@ -36,7 +36,7 @@ class LentSlice(Slice):
         self.take_ended(w)
 
     def take_rest(self, w):
-        """its part is what comes next, and nothing follows"""
+        """its part is what comes next, and nothing that follows is of use"""
         w.fsplit('lasts', 'last', 'lasts')
         w.drop('lasts')
         self.take_ended(w)
@@ -55,12 +55,12 @@ class Nodes(LentSlice):
 
 
 class SharedNodes(Nodes):
-    """the nodes, which one callee is lent for reading, under another name, before another is given them for good"""
+    """the nodes, which one callee reads, under another name, before another is given them for good"""
+    shared = 'ShrSlice (named 0) (ν ∷ []) T.the-row .own (x δ) (s₁ ∷ [])'
+    sharing = 'T.the-row κ₁ (ν ∷ []) q₁ γ₁ b₁ o₁'
 
     def __init__(self):
         super().__init__(term='x γ₁')
-        self.shared = 'ShrSlice (named 0) (ν ∷ []) T.the-row .own (x δ) (s₁ ∷ [])'
-        self.sharing = 'T.the-row κ₁ (ν ∷ []) q₁ γ₁ b₁ o₁'
 
     def reference(self, indent):
         """the term for it, under any name"""
@@ -99,8 +99,8 @@ class LentRecord(Borrow):
         super().__init__(name, place, term, of.type, now)
         self.of, self.value, self.last, self.end = of, f'vptr {place.block} {place.offset}', of.type, end
         self.temporaries, self.passed = (f'{name}.ref',), f'{name}.ref'
-        self.ends_as = f'{of.row} .coded .code {grouped(end)}'
-        self.final = [(self.ended, f'‵ (fres {place.name} ({self.ends_as}))')]
+        self.code = f'{of.row} .coded .code {grouped(end)}'
+        self.final = [(self.ended, f'‵ (fres {place.name} ({self.code}))')]
 
     def stand(self, i, j, count):
         """it is given up"""
@@ -110,9 +110,20 @@ class LentRecord(Borrow):
         self.stays = f'gave-ref ({j} ∷ []) tt (plain (λ _. {row}))'
         self.goes = f'goes-gave-ref 𝓤 H A W {count} {j} tt (plain (λ _. {row}))'
 
+    def reborrow(self, w):
+        """&mut *it, in its temporary"""
+        w.address(f'{self.name}.ref', w.through(self.name))
+
     def take_last(self, w):
         """its part is what comes next"""
         w.fsplit('lasts', self.ended, 'lasts')
+
+
+class Coordinator(LentRecord):
+    """the coordinator"""
+
+    def __init__(self, place=marked('₀'), term='c'):
+        super().__init__('coordinator', place, term, COORDINATOR, 'h', 'k')
 
 
 class KeptRecord(LentRecord):
@@ -122,55 +133,93 @@ class KeptRecord(LentRecord):
     def __init__(self, name, place, term, of, now, end, shape):
         super().__init__(name, place, term, of, now, end)
         self.shape, self.where, self.left = shape, f'{place.block} {place.offset}', (self.held, None)
-        self.final = [('observed', f'‵ (fobs {place.name} ({self.ends_as}))'),
-                      ('borrowed', f'‵ (fbor {self.lifetime} (Body (mem {of.row}) {self.where} {place.name}))')]
+        self.observed, self.borrowed = f'observed {name}', f'borrowed {name}'
+        self.record, self.opened = f'record {name}', [f'open {name}', self.observed, f'authority {name}']
+        self.final = [(self.observed, f'‵ (fobs {place.name} ({self.code}))'),
+                      (self.borrowed, f'‵ (fbor {self.lifetime} (Body (mem {of.row}) {self.where} {place.name}))')]
 
     def stand(self, i, j, count):
         """it is kept"""
         super().stand(i, j, count)
-        self.stays, self.goes = f'stay-ref ({j} ∷ []) tt (plain (λ _. {self.of.row}))', f'goes-ref 𝓤 H A W {count} {j} tt (plain (λ _. {self.of.row}))'
+        self.stays = f'stay-ref ({j} ∷ []) tt (plain (λ _. {self.of.row}))'
+        self.goes = f'goes-ref 𝓤 H A W {count} {j} tt (plain (λ _. {self.of.row}))'
 
     def define(self, indent=2):
         """the reference, and the function to values"""
         return self.reference(indent) + abbrev(self.shape, f'{self.of.type} → Val', self.of.shape, indent=indent)
 
     def final_and_token(self):
-        """as the closed borrow leaves them"""
+        """in the order in which a closed borrow leaves them"""
         return [*self.final, (self.lifetime, token(self.lifetime, self.share))]
 
     def put_together(self, w):
-        """the borrow"""
+        """the borrow, and what it is of"""
         w.push(f'feqI ! (List Val) ({self.value} ∷ []) ({self.value} ∷ []) refl $', 'address')
-        w.use(['address', 'observed', 'borrowed'], 'fjoin3 ! $', self.held)
+        w.use(['address', self.observed, self.borrowed], 'fjoin3 ! $', self.held)
 
     def open(self, w, proof):
-        """`record`: its cell, known to be right by a proof; and what closes the borrow"""
+        """opens the borrow: the record as a cell, known to be right by a proof, and what closes it again"""
         value = f'{self.shape} {self.now}'
-        w.use([self.held], 'fsplit3 ! $', 'address', 'observed', 'borrowed')
+        w.use([self.held], 'fsplit3 ! $', 'address', self.observed, self.borrowed)
         w.drop('address')
-        w.use(['observed', 'borrowed', self.lifetime], f'opens ! tt {self.of.row} {{h = {self.now}}} {self.where} (λ vs. {self.of.spelt(self.now, "vs", self.where)}',
-              'record', 'plain', 'open', 'observed', 'authority')
+        w.use([self.observed, self.borrowed, self.lifetime],
+              f'opens ! tt {self.of.row} {{h = {self.now}}} {self.where} (λ vs. {self.of.spelt(self.now, "vs", self.where)}', self.record, 'plain', *self.opened)
         w.use(['plain'], self.of.peeks(self.now, value, proof))
-        w.use(['record'], self.of.as_local(value, self.where), 'record')
+        w.use([self.record], self.of.as_local(value, self.where), self.record)
+
+    def read(self, w):
+        """an operand: *it"""
+        return f'load ! (from ! ({w.through(self.name)})) (look ! {w.at(self.record)} refl)'
+
+    def write(self, w, operand, typed):
+        """*it = operand"""
+        w.say(f'assigns ! (of-opd ! ({operand})) (from ! ({w.through(self.name)})) (store ! {w.at(self.record)} refl {typed}) $')
 
     def close(self, w, proof):
-        """on what it ends as, known to be right by a proof"""
+        """closes the borrow, on what the record ends as, known to be right by a proof"""
         value = f'{self.shape} {grouped(self.end)}'
-        w.use(['record'], self.of.as_cell(value, self.where), 'record')
+        w.use([self.record], self.of.as_cell(value, self.where), self.record)
         w.push(self.of.owned(self.end, proof), 'plain')
-        w.use(['record', 'plain', 'open', 'observed', 'authority'], f'closes ! tt {self.of.row} {grouped(self.end)} ({value} ∷ []) {self.where} $',
-              'observed', 'borrowed', self.lifetime)
-
-
-class Coordinator(LentRecord):
-    """the coordinator, lent on"""
-
-    def __init__(self, place=marked('₀'), term='c'):
-        super().__init__('coordinator', place, term, COORDINATOR, 'h', 'k')
+        w.use([self.record, 'plain', *self.opened], f'closes ! tt {self.of.row} {grouped(self.end)} ({value} ∷ []) {self.where} $',
+              self.observed, self.borrowed, self.lifetime)
 
 
 class KeptCoordinator(KeptRecord):
-    """the coordinator, read and written here"""
+    """the coordinator, read and written by the function itself"""
 
     def __init__(self, end):
         super().__init__('coordinator', marked('₀'), 'c', COORDINATOR, 'h', end, 'coord')
+
+
+class LocalCoordinator(Coordinator):
+    """a coordinator in a local d, lent for a lifetime ν₀ under a name δ₀; the proof has it at l"""
+    local, whole, shape, proof_now = 'd', COORDINATOR, 'coord', 'ish'
+
+    def __init__(self):
+        super().__init__(Place('(ν₀ ∷ [])', 'fullShare', 'l', '0', 'δ₀'), 'c′')
+
+    def lending(self, l, m):
+        """the borrow under a name δ, what gives the local back, and the law for both"""
+        return (f'{self.row} .own (c′ ν₀ ν₁ δ δ {l} {m}) (vptr {l} 0 ∷ [])', f'flent (ν₀ ∷ []) (Body (mem K.the-row) {l} 0 δ)',
+                f'lends-local 𝓤 H A W K.the-row (named 0) (ν₀ ∷ []) h _ {l} 0')
+
+    def giving_back(self, end, place):
+        """the law that gives the local back"""
+        return f'local-back 𝓤 H A W K.the-row (ν₀ ∷ []) δ₀ ({end}) {place}'
+
+
+class LocalNodes(Nodes):
+    """the nodes in a local array ns, lent as a slice for a lifetime ν₁ under a name δ₁; the proof has it at m"""
+    local, whole, shape, proof_now = 'ns', ARRAY, 'arr', 'is-nodes t _ ist'
+
+    def __init__(self):
+        super().__init__(Place('(ν₁ ∷ [])', 'fullShare', 'm', '0', 'δ₁'), 'x′', 's′')
+
+    def lending(self, l, m):
+        """the borrow under a name δ, what gives the local back, and the law for both"""
+        return (f'{self.row} .own (x′ ν₀ ν₁ δ₀ δ {l} {m}) (sliceVal ({m}, 0) (length ys) ∷ [])', f'flent (ν₁ ∷ []) (Held T.the-row (length ys) {m} 0 δ)',
+                f'lends-array 𝓤 H A W T.the-row tt 40 (named 1) (ν₁ ∷ []) ys _ {m} 0 room₁')
+
+    def giving_back(self, end, place):
+        """the law that gives the local back"""
+        return f'array-back 𝓤 H A W T.the-row (ν₁ ∷ []) δ₁ ({end}) 40 {place}'

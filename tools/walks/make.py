@@ -1,5 +1,6 @@
 #!/usr/bin/env python3
-"""tools/walks/make.py: writes the walks of crates/panel/proofs that follow one of three patterns; `rt fmt` afterwards. tools/walks/check holds the files to it."""
+"""tools/walks/make.py: writes the walks of crates/panel/proofs that follow one of three patterns; `rt fmt` afterwards. tools/walks/check holds the files
+to it."""
 from for_c import ForC
 from in_place import InPlace
 from on_copies import OnCopies
@@ -18,29 +19,29 @@ STEP = {
 
 WALKS = [
     InPlace(
-        'setup', 'counted_setup', result='Stepped', answer=('outcome', 'Outcome'), **SETUP,
+        'setup', calls='counted_setup', result='Stepped', answer=('outcome', 'Outcome'), **SETUP,
         counted='countedSetup h (t .nodes) (length ys) xs0 e1 e2 e3 e4',
         gives='shown r ≡ shows ({counted})',
         law='setup-in-place h ys {zs} xs0 e1 e2 e3 e4 t r et {forty} er ez'),
     InPlace(
-        'step', 'counted_step', result='Stepped', answer=('outcome', 'Outcome'), **STEP,
+        'step', calls='counted_step', result='Stepped', answer=('outcome', 'Outcome'), **STEP,
         counted='countedStep h (t .nodes) (length ys) e0 xs1 (length os)',
         gives='(shown r ≡ shows ({counted})) × ({us} ≡ laid ({counted} .bytes) os)',
         law='step-in-place h ys {zs} e0 xs1 os {us} t r et {forty} er ez'),
     InPlace(
-        'nadrelgos_amend', 'counted_amend', result='Amended', answer=('answer', 'u64'), coordinator=False, out=False,
+        'nadrelgos_amend', calls='counted_amend', result='Amended', answer=('answer', 'u64'), coordinator=False, out=False,
         parameters=['u8', 'usize', 'u8', 'u64', 'u64'],
         gives='amends (r .answer) (r .table .nodes) ≡ amendOf (length ys) (t .nodes) e0 e1 e2 e3 e4',
         said='amends {y} {zs} ≡ amendOf (length ys) ys e0 e1 e2 e3 e4',
         law='amend-in-place ys {zs} e0 e1 e2 e3 e4 t r et {forty} er ez'),
-    OnCopies('lend_setup', 'setup', **SETUP),
-    OnCopies('lend_step', 'step', **STEP),
+    OnCopies('lend_setup', calls='setup', **SETUP),
+    OnCopies('lend_step', calls='step', **STEP),
     ForC(
-        'nadrelgos_setup', 'setup', event=False, **SETUP,
+        'nadrelgos_setup', calls='setup', event=False, **SETUP,
         faces='facing {n} {k} {zs} ≡ faced ({does})',
         law='faced-as {y} {k} {zs} {n} ({does}) ey en'),
     ForC(
-        'nadrelgos_step', 'step', parameters=['u8', 'u8', 'u64', 'u64', 'bytes'],
+        'nadrelgos_step', calls='step', parameters=['u8', 'u8', 'u64', 'u64', 'bytes'],
         does='stepOf h ys e xs4 (length os)',
         said=STEP['said'],
         event_does='stepOf h ys (eventOf e0 e1 e2 e3) xs4 (length os)',

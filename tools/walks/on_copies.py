@@ -8,35 +8,34 @@
         Stepped { coordinator: d, table: u, outcome: a }
     }
 
-The output may be absent. The locals d and ns are lent for lifetimes ν₀ and ν₁ of the call, under names δ₀ and δ₁, and come back when these have ended.
+The output may be absent. The locals d and ns are lent for lifetimes ν₀ and ν₁ of the call, and come back when these have ended.
 
-In the facts h, ys and os are the coordinator, the table's nodes and the output at entry, and k, zs and us what they end as; the parameters between are e0, xs1, ..
-by their place. `said` is what STEP ensures of its outcome y; what FUNCTION ensures is the same of the parts of its result."""
+In the facts h, ys and os are the coordinator, the table's nodes and the output at entry, and k, zs and us what they end as; the parameters between are e0,
+xs1, .. by their place. `said` is what STEP ensures of its outcome y; what FUNCTION ensures is the same of the parts of its result."""
 from calls import Call, Callee
-from lent import Coordinator, Nodes, Output
-from parameters import Arguments, Place, Value
-from rows import COORDINATOR, NODE, OUTCOME, TABLE, Row, Struct
+from lent import LocalCoordinator, LocalNodes, Output
+from parameters import Arguments, Value
+from rows import ARRAY, COORDINATOR, NODE, OUTCOME, TABLE, Struct
 from shape import Shape
 from terms import ABOUT, G, abbrev, lemma, nest
 
 RESULT = Struct('Stepped', 'S')
-ARRAY = Row('Arr', 'List Node', f'array-lawful 𝓤 H A W T.the-row ({NODE.lawful}) 40', f'array-makes 𝓤 H A W T.the-row ({NODE.makes}) 40',
-            'λ xs. arr xs ∷ []', 'arr-tells', 'arr', 'tyArray T′.mir 40')
 # what the coordinator and the nodes ended as, and that the value of the result is right
 K, ZS, IS_MADE = 'ws .0', 'ws .1 .0', 'is-made (ws .0) (ws .1 .0) y isk isn (is-y y z isz)'
 
 
 class OnCopies(Shape):
-    """a function on copies, by what STEP it calls"""
+    """a function on copies; it calls STEP"""
     alias = 'value'
 
     def __init__(self, function, calls, parameters, out=True, **facts):
-        coordinator, table = Value('coordinator', COORDINATOR, 'h', 'coord h', 'ish'), Value('table', TABLE, 't', 'table ys', 'ist')
+        coordinator = Value('coordinator', COORDINATOR, 'h', 'coord h', 'ish')
+        table = Value('table', TABLE, 't', 'table ys', 'ist')
         output = Output('', 'lu') if out else None
         self.step = Callee(calls, 'step′', 'StepC', 'step', 'known')
         super().__init__(function, [coordinator, table], parameters, [output], [self.step], facts)
-        # what STEP is passed: the two locals, at l and m, and the rest as it came
-        self.d, self.ns = Coordinator(Place('(ν₀ ∷ [])', 'fullShare', 'l', '0', 'δ₀'), 'c′'), Nodes(Place('(ν₁ ∷ [])', 'fullShare', 'm', '0', 'δ₁'), 'x′', 's′')
+        # what STEP is passed: the two locals, and the rest as it came
+        self.d, self.ns = LocalCoordinator(), LocalNodes()
         self.d.stand(0, 0, 2)
         self.ns.stand(1, 1, 2)
         self.passed = Arguments([self.d, self.ns, *self.between, output])
@@ -54,13 +53,14 @@ class OnCopies(Shape):
 
     def known(self):
         """the result, and that its value is right where those of its parts are"""
-        made = abbrev('made', 'Coordinator → List Node → Outcome → Stepped', 'record { coordinator = k; table = record { nodes = zs }; outcome = y }', 'k zs y', 0)
+        made = 'record { coordinator = k; table = record { nodes = zs }; outcome = y }'
         parts = f'Is K.the-row k ({COORDINATOR.listed("k")}) → Is Arr zs ({ARRAY.listed("zs")}) → Is An.the-row y ({OUTCOME.listed("y")})'
-        is_made = lemma('is-made', f'(k : Coordinator) (zs : List Node) (y : Outcome) → {parts}\n    → Is S.the-row (made k zs y) ({RESULT.listed("made k zs y")})',
-                        'LL.owes S.the-type S′.the-laws (made k zs y) (isk, (is-table zs isz, (isy, tt)))', 'k zs y isk isz isy', 0)
-        is_y = lemma('is-y', f'(y : Outcome) (z : Val) → Is An.the-row y (z ∷ []) → Is An.the-row y ({OUTCOME.listed("y")})',
-                     f'subst (Is An.the-row y) ({OUTCOME.tells} y _ is) is', 'y z is', 0)
-        return made + is_made + is_y
+        return ''.join([
+            abbrev('made', 'Coordinator → List Node → Outcome → Stepped', made, 'k zs y', 0),
+            lemma('is-made', f'(k : Coordinator) (zs : List Node) (y : Outcome) → {parts}\n    → Is S.the-row (made k zs y) ({RESULT.listed("made k zs y")})',
+                  'LL.owes S.the-type S′.the-laws (made k zs y) (isk, (is-table zs isz, (isy, tt)))', 'k zs y isk isz isy', 0),
+            lemma('is-y', f'(y : Outcome) (z : Val) → Is An.the-row y (z ∷ []) → Is An.the-row y ({OUTCOME.listed("y")})',
+                  f'subst (Is An.the-row y) ({OUTCOME.tells} y _ is) is', 'y z is', 0)])
 
     def contracts(self):
         """the contract that the proof cites"""
@@ -68,9 +68,11 @@ class OnCopies(Shape):
 
     def setting(self):
         """what the walk is given, and the terms that it speaks of"""
-        nodes = (abbrev('ys', 'List Node', 't .nodes') + lemma('forty', 'length ys ≡ 40', 'is-nodes t _ ist .1 .0 .1')
+        nodes = (abbrev('ys', 'List Node', 't .nodes')
+                 + lemma('forty', 'length ys ≡ 40', 'is-nodes t _ ist .1 .0 .1')
                  + lemma('room₁', 'Room T.the-row (length ys)', '(omega (arith, forty), omega (arith, forty))'))
-        shapes = (abbrev('coord', 'Coordinator → Val', COORDINATOR.shape) + abbrev('table', 'List Node → Val', TABLE.value('record { nodes = xs }'), 'xs')
+        shapes = (abbrev('coord', 'Coordinator → Val', COORDINATOR.shape)
+                  + abbrev('table', 'List Node → Val', TABLE.value('record { nodes = xs }'), 'xs')
                   + abbrev('result', 'Coordinator → List Node → Outcome → Val', RESULT.value('made k zs y'), 'k zs y'))
         return self.given() + nodes + self.arguments() + shapes + self.values() + self.post()
 
@@ -101,8 +103,7 @@ class OnCopies(Shape):
         self.lend_locals(w)
         self.call_step(w)
         w.say('-- and come back')
-        self.take_back_d(w)
-        self.take_back_ns(w)
+        self.take_locals_back(w)
         self.make_result(w)
         self.leave(w)
         out = ''.join(f' {self.ends[x.end]} {x.length}' for x in self.slices)
@@ -114,7 +115,7 @@ class OnCopies(Shape):
         w.copy('ns', w.field('table', 0), ARRAY.typed('ys', 'is-nodes t _ ist'))
 
     def make_references(self, w):
-        """&mut d, &mut ns as a slice, of which forty is the length of the list, and the output"""
+        """&mut d; &mut ns, as a slice whose forty is the length of ys; &mut *out"""
         w.address('coordinator.ref')
         w.address('nodes.ref')
         w.aggregate('nodes.slice', [w.read('nodes.ref'), 'lit ! tt'], '(tt, (tt, (record { fits = lit< tt }, tt)))')
@@ -124,30 +125,27 @@ class OnCopies(Shape):
             x.reborrow(w)
 
     def lend_locals(self, w):
-        """each cell, with what is owned of its value, into a borrow and what gives the cell back"""
-        l, m = w.location('d'), w.location('ns')
+        """d and ns are lent, each for a new lifetime"""
         w.push('lft-new ! tt (λ ν₀.', self.d.lifetime)
         w.push('lft-new ! tt (λ ν₁.', self.ns.lifetime)
-        w.use(['cell d'], COORDINATOR.as_cell('coord h', f'{l} 0'), 'cell d')
-        w.push(COORDINATOR.owned('h', 'ish'), 'plain')
-        self.lend(w, 'cell d', self.d, f'(c′ ν₀ ν₁ δ δ {l} {m}) (vptr {l} 0 ∷ [])', f'Body (mem K.the-row) {l} 0 δ',
-                  f'lends-local 𝓤 H A W K.the-row (named 0) (ν₀ ∷ []) h _ {l} 0')
-        w.use(['cell ns'], ARRAY.as_cell('arr ys', f'{m} 0'), 'cell ns')
-        w.push(ARRAY.owned('ys', 'is-nodes t _ ist'), 'plain')
-        self.lend(w, 'cell ns', self.ns, f'(x′ ν₀ ν₁ δ₀ δ {l} {m}) (sliceVal ({m}, 0) (length ys) ∷ [])', f'Held T.the-row (length ys) {m} 0 δ',
-                  f'lends-array 𝓤 H A W T.the-row tt 40 (named 1) (ν₁ ∷ []) ys _ {m} 0 room₁')
+        self.lend(w, self.d)
+        self.lend(w, self.ns)
 
-    def lend(self, w, cell, x, at, back, law):
-        """one of them, by a law: the borrow x, owned at a term and its value, and what gives the cell back"""
-        w.use([cell, 'plain'], f'use2 W (later (some (λ (δ : GName). ‵ ({x.row} .own {at}) ⊛ ‵ (flent {x.lifetime} ({back}))))) ({law})'
-              f' $ await ! tt $ pick ! (λ {x.place.name}. split ! $', x.held, f'lent {cell}')
+    def lend(self, w, x):
+        """the cell of a local, with what is owned of its value, into a borrow under a new name and what gives the cell back"""
+        cell, place = f'cell {x.local}', f'{w.location(x.local)} 0'
+        borrow, back, law = x.lending(w.location('d'), w.location('ns'))
+        w.use([cell], x.whole.as_cell(f'{x.shape} {x.now}', place), cell)
+        w.push(x.whole.owned(x.now, x.proof_now), 'plain')
+        w.use([cell, 'plain'], f'use2 W (later (some (λ (δ : GName). ‵ ({borrow}) ⊛ ‵ ({back})))) ({law}) $ await ! tt $ pick ! (λ {x.place.name}. split ! $',
+              x.held, f'lent {x.local}')
 
     def call_step(self, w):
         """let a = STEP(&mut d, &mut ns, .., out)"""
         self.gather(w, self.passed)
         w.tokens_together(self.passed.lifetimes)
         at = f'ν₀ ν₁ δ₀ δ₁ {w.location("d")} {w.location("ns")}'
-        call = Call(self.step, f'to-step {at}', f'asked {at}', f'lent-args {at}', f'toks {at}', nest(self.passed.lifetimes))
+        call = Call(self.step, f'to-step {at}', f'asked {at}', f'lent-args {at}', tokens=f'toks {at}', lifetimes=nest(self.passed.lifetimes))
         call.ask(w)
         call.make(w, self.passed.read(w), 'y', OUTCOME, 'z')
         call.hear_of(w, 'ws', self.passed.last_types(), self.fact('said', y='y', **self.ends), 'e')
@@ -157,30 +155,24 @@ class OnCopies(Shape):
         w.spell('a', OUTCOME, 'y', 'isz', 'u')
         w.tokens_apart(self.passed.lifetimes)
 
-    def take_back_d(self, w):
-        """ends ν₀: d is a local again, with what the coordinator ended as"""
-        place = f'{w.location("d")} 0'
-        w.use([self.d.lifetime], 'lft-end ! tt $', 'dead ν₀')
-        self.take_back(w, 'ν₀', 'cell d', self.d, COORDINATOR, 'vs', K, place, f'local-back 𝓤 H A W K.the-row (ν₀ ∷ []) δ₀ ({K}) {place}')
-        w.use(['plain'], COORDINATOR.peeks(K, f'coord ({K})', 'isk'))
-        w.use(['cell d'], COORDINATOR.as_local(f'coord ({K})', place), 'cell d')
+    def take_locals_back(self, w):
+        """the lifetimes end, and d and ns come back; the nodes are as many as an array has"""
+        w.use([self.d.lifetime], 'lft-end ! tt $', 'dead d')
+        self.take_back(w, self.d, 'vs', K, 'isk')
+        w.use([self.ns.lifetime], 'lft-end ! tt $', 'dead ns')
+        w.move('dead ns', 'lent ns', self.ns.ended)
+        w.say(f'rewrite ! 1 (λ (k : ℕ). ‵ (flent (ν₁ ∷ []) (Held T.the-row k {w.location("ns")} 0 δ₁))) forty refl $')
+        self.take_back(w, self.ns, 'us', ZS, 'isn')
 
-    def take_back_ns(self, w):
-        """ends ν₁: ns is a local again, with what the nodes ended as, as many as there were"""
-        place = f'{w.location("ns")} 0'
-        w.use([self.ns.lifetime], 'lft-end ! tt $', 'dead ν₁')
-        w.move('dead ν₁', 'lent cell ns', self.ns.ended)
-        w.say(f'rewrite ! 1 (λ (k : ℕ). ‵ (flent (ν₁ ∷ []) (Held T.the-row k {place} δ₁))) forty refl $')
-        self.take_back(w, 'ν₁', 'cell ns', self.ns, ARRAY, 'us', ZS, place, f'array-back 𝓤 H A W T.the-row (ν₁ ∷ []) δ₁ ({ZS}) 40 {place}')
-        w.use(['plain'], ARRAY.peeks(ZS, f'arr ({ZS})', 'isn'))
-        w.use(['cell ns'], ARRAY.as_local(f'arr ({ZS})', place), 'cell ns')
-
-    def take_back(self, w, lifetime, cell, x, of, values, term, place, law):
-        """one of them, by a law: a cell of a row, at a place, and what is owned of the values in it, which are the term's"""
-        owned = f'‵ (cellAt fullShare ({of.row} .mir) {values} {place}) ⊛ ‵ ({of.row} .own ({term}) {values})'
-        w.use([f'dead {lifetime}', f'lent {cell}', x.ended],
-              f'use3 W (later (some (λ ({values} : List Val). {owned}))) ({law}) $ await ! tt $ pick ! (λ {values}. split ! $', cell, 'plain')
-        w.say(of.spelt(term, values, place))
+    def take_back(self, w, x, values, end, proof):
+        """the cell of a local whose lifetime is dead, with the values of what it ended as, and the proof that these are right"""
+        cell, place, row, value = f'cell {x.local}', f'{w.location(x.local)} 0', x.whole.row, f'{x.shape} ({end})'
+        back = f'‵ (cellAt fullShare ({row} .mir) {values} {place}) ⊛ ‵ ({row} .own ({end}) {values})'
+        w.use([f'dead {x.local}', f'lent {x.local}', x.ended], f'use3 W (later (some (λ ({values} : List Val). {back}))) ({x.giving_back(end, place)})'
+              f' $ await ! tt $ pick ! (λ {values}. split ! $', cell, 'plain')
+        w.say(x.whole.spelt(end, values, place))
+        w.use(['plain'], x.whole.peeks(end, value, proof))
+        w.use([cell], x.whole.as_local(value, place), cell)
 
     def make_result(self, w):
         """let u = Table { nodes: ns }; Stepped { coordinator: d, table: u, outcome: a }"""

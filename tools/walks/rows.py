@@ -81,4 +81,7 @@ class Enum(Row):
 
 U8, U64, USIZE = UInt('u8'), UInt('u64'), UInt('usize')
 NODE, TABLE, COORDINATOR, OUTCOME = Struct('Node', 'T'), Struct('Table', 'B'), Struct('Coordinator', 'K'), Struct('Outcome', 'An')
+# the nodes of a table, and the result of a function that gives none
+ARRAY = Row('Arr', 'List Node', f'array-lawful 𝓤 H A W T.the-row ({NODE.lawful}) 40', f'array-makes 𝓤 H A W T.the-row ({NODE.makes}) 40',
+            'λ xs. arr xs ∷ []', 'arr-tells', 'arr', 'tyArray T′.mir 40')
 NOTHING = Row('Nothing', 'Unit {0}', 'nothing-lawful 𝓤 H A W')

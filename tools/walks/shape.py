@@ -11,10 +11,10 @@ ROOT = os.path.dirname(os.path.dirname(os.path.dirname(os.path.abspath(__file__)
 
 
 class Shape:
-    """The proof of one function. Its parameters are `before`, `between` and `after`; the outer ones, which are the shape's, come first wherever the order is free,
-    and are None where they are absent. A fact is a text with holes, for other facts by their names and for what the shape fills in.
+    """The proof of one function. Its parameters are `before`, `between` and `after`; the outer ones are the shape's, and None where they are absent. A fact is
+    a text with holes: for other facts, by their names, and for what the shape fills in.
 
-    A shape has the parts `head`, `known`, `contracts`, `setting`, `exits`, `asked` and `walk`; what follows here are the other parts, and what those are made of."""
+    Each shape has the parts `head`, `known`, `contracts`, `setting`, `exits`, `asked` and `walk`; here are the other parts, and what those are made of."""
     alias = ''                  # under which the function's statement is imported
     tokens_apart = True         # whether the walk takes the tokens apart; if not, they are one item, `toks`
 
@@ -25,7 +25,8 @@ class Shape:
         self.outer, self.parameters = Arguments([*before, *after]), Arguments([*before, *self.between, *after])
         self.slices = [x for x in self.outer if isinstance(x, LentSlice)]
         self.parameters.stand()
-        self.lifetimes, self.shares, self.ghost = nest(self.parameters.lifetimes), nest(self.parameters.shares), self.parameters.ghost('a', 'at')
+        self.lifetimes, self.shares = nest(self.parameters.lifetimes), nest(self.parameters.shares)
+        self.ghost = self.parameters.ghost('a', 'at')
         self.clauses = f'{self.alias}.ended stayed ({self.alias}.clauses {G})'
 
     def fact(self, name, **holes):
@@ -34,7 +35,8 @@ class Shape:
 
     def text(self):
         """the proof"""
-        return trimmed(''.join([self.head(), self.statement(), self.known(), self.contracts(), self.setting(), self.exits(), self.asked(), self.walk(), self.foot()]))
+        parts = self.head, self.statement, self.known, self.contracts, self.setting, self.exits, self.asked, self.walk, self.foot
+        return trimmed(''.join(part() for part in parts))
 
     def write(self):
         """writes the proof"""
@@ -52,8 +54,8 @@ class Shape:
 
     def statement(self):
         """the type of the arguments, and how each parameter comes to exit"""
-        return (abbrev('Arg', 'Type 0', self.parameters.types(), indent=0)
-                + abbrev('stayed', f'Stays ({self.alias}.ended .signature .params) ({self.alias}.ended .kept)', nest(x.stays for x in self.parameters), indent=0))
+        stays = f'Stays ({self.alias}.ended .signature .params) ({self.alias}.ended .kept)'
+        return abbrev('Arg', 'Type 0', self.parameters.types(), indent=0) + abbrev('stayed', stays, nest(x.stays for x in self.parameters), indent=0)
 
     # The setting.
     def given(self):
