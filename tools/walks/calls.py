@@ -4,8 +4,8 @@ from terms import G, abbrev, at, bound, grouped, lemma
 
 
 class Callee:
-    """A function that the walk calls. Its statement is imported under the alias, the proof has a name for its contract, and a short one for the callee; that it
-    meets the contract is known under the short name, in the walk itself if need be under another."""
+    """A function that the walk calls. In the proof its statement is the `alias` and its contract the `contract`; `name` is the stem of the other names for it.
+    That it meets the contract is known-NAME, in the walk itself `known` where that is given."""
 
     def __init__(self, function, alias, contract, name, known=None):
         self.function, self.alias, self.contract, self.name = function, alias, contract, name

@@ -26,15 +26,15 @@ class ForC(Shape):
     alias, tokens_apart = 'face′', False
 
     def __init__(self, function, calls, parameters, event=True, out=True, **facts):
-        coordinator, nodes, output = Coordinator(), Nodes(), Output() if out else None
+        before, output = [Coordinator(), Nodes()], Output() if out else None
         self.event_of = Callee('event_of', 'hear′', 'Hear', 'hear') if event else None
         self.step = Callee(calls, 'step′', 'Step', 'step')
         self.pack = Callee('pack', 'pack′', 'Pack', 'pack')
-        super().__init__(function, [coordinator, nodes], parameters, [output], [self.event_of, self.step, self.pack], facts)
+        super().__init__(function, before, parameters, [output], [self.event_of, self.step, self.pack], facts)
         # the event, what it is made of, and what STEP is passed
         self.event = Value('e', EVENT, 'e', 'v', 'ise') if event else None
         self.numbers = Arguments(x for x in self.between if event and x not in self.bytes)
-        self.passed = Arguments([coordinator, nodes, self.event, *(x for x in self.between if x not in self.numbers), output])
+        self.passed = Arguments([*before, self.event, *(x for x in self.between if x not in self.numbers), output])
         self.heard = ' '.join(['eventOf', *(x.term for x in self.numbers)])
         self.ends = self.passed.ends('ws')
 
@@ -67,7 +67,7 @@ class ForC(Shape):
     def exits(self):
         """what is left at exit is what is to hold"""
         over = [(x.end, x.last) for x in self.outer] + [('n', 'ℕ'), ('v', 'Val')]
-        return self.exit_lemma(over, self.fact('faces', n='n', k='k', zs='zs', us='us'), U64, 'n', 'v')
+        return self.exit_lemma(over, self.fact('faces', n='n', **{x.end: x.end for x in self.outer}), U64, 'n', 'v')
 
     def asked(self):
         """what the calls ask"""

@@ -55,7 +55,7 @@ class Nodes(LentSlice):
 
 
 class SharedNodes(Nodes):
-    """the nodes, which one callee reads, under another name, before another is given them for good"""
+    """the nodes, which one callee reads, under another name, before another is given them for good; the proof has `N-own` for owning them"""
     shared = 'ShrSlice (named 0) (ν ∷ []) T.the-row .own (x δ) (s₁ ∷ [])'
     sharing = 'T.the-row κ₁ (ν ∷ []) q₁ γ₁ b₁ o₁'
 
@@ -71,13 +71,13 @@ class SharedNodes(Nodes):
         law = f'shares-again {self.sharing} 𝓤 H A W (named {self.j}) (named 0) ys'
         w.push('lft-new ! tt (λ ν.', 'ν')
         w.use([self.held, self.lifetime], f'use2 W (later (some (λ (δ : GName). ‵ ({self.shared}) ⊛ ‵ (Shared {self.sharing} ys)))) ({law})'
-              ' $ await ! tt $ pick ! (λ δ. split ! $', 'shared nodes', 'back')
+              ' $ await ! tt $ pick ! (λ δ. split ! $', 'shared nodes', 'sharing nodes')
 
     def unshare(self, w):
         """ends ν"""
         law = f'unshared {self.sharing} 𝓤 H A W (named {self.j}) (named 0) ys room₁'
         w.use(['ν'], 'lft-end ! tt $', 'dead ν')
-        w.use(['dead ν', 'back'], f'use2 W (later (‵ N-own ⊛ ‵ (flft κ₁ q₁))) ({law}) $ await ! tt $ split ! $', self.held, self.lifetime)
+        w.use(['dead ν', 'sharing nodes'], f'use2 W (later (‵ N-own ⊛ ‵ (flft κ₁ q₁))) ({law}) $ await ! tt $ split ! $', self.held, self.lifetime)
 
 
 class Output(LentSlice):
@@ -162,8 +162,8 @@ class KeptRecord(LentRecord):
         value = f'{self.shape} {self.now}'
         w.use([self.held], 'fsplit3 ! $', 'address', self.observed, self.borrowed)
         w.drop('address')
-        w.use([self.observed, self.borrowed, self.lifetime],
-              f'opens ! tt {self.of.row} {{h = {self.now}}} {self.where} (λ vs. {self.of.spelt(self.now, "vs", self.where)}', self.record, 'plain', *self.opened)
+        opens = f'opens ! tt {self.of.row} {{h = {self.now}}} {self.where} (λ vs. {self.of.spelt(self.now, "vs", self.where)}'
+        w.use([self.observed, self.borrowed, self.lifetime], opens, self.record, 'plain', *self.opened)
         w.use(['plain'], self.of.peeks(self.now, value, proof))
         w.use([self.record], self.of.as_local(value, self.where), self.record)
 
@@ -180,8 +180,8 @@ class KeptRecord(LentRecord):
         value = f'{self.shape} {grouped(self.end)}'
         w.use([self.record], self.of.as_cell(value, self.where), self.record)
         w.push(self.of.owned(self.end, proof), 'plain')
-        w.use([self.record, 'plain', *self.opened], f'closes ! tt {self.of.row} {grouped(self.end)} ({value} ∷ []) {self.where} $',
-              self.observed, self.borrowed, self.lifetime)
+        closes = f'closes ! tt {self.of.row} {grouped(self.end)} ({value} ∷ []) {self.where} $'
+        w.use([self.record, 'plain', *self.opened], closes, self.observed, self.borrowed, self.lifetime)
 
 
 class KeptCoordinator(KeptRecord):
@@ -192,8 +192,9 @@ class KeptCoordinator(KeptRecord):
 
 
 class LocalCoordinator(Coordinator):
-    """a coordinator in a local d, lent for a lifetime ν₀ under a name δ₀; the proof has it at l"""
-    local, whole, shape, proof_now = 'd', COORDINATOR, 'coord', 'ish'
+    """The coordinator in a local d, lent for a lifetime ν₀ under a name δ₀; what the call asks is stated with d at l. `whole` is the row of the local, `shape`
+    the proof's name for its function to values, `is_now` that the value is right."""
+    local, whole, shape, is_now = 'd', COORDINATOR, 'coord', 'ish'
 
     def __init__(self):
         super().__init__(Place('(ν₀ ∷ [])', 'fullShare', 'l', '0', 'δ₀'), 'c′')
@@ -209,8 +210,8 @@ class LocalCoordinator(Coordinator):
 
 
 class LocalNodes(Nodes):
-    """the nodes in a local array ns, lent as a slice for a lifetime ν₁ under a name δ₁; the proof has it at m"""
-    local, whole, shape, proof_now = 'ns', ARRAY, 'arr', 'is-nodes t _ ist'
+    """the nodes in a local array ns, lent as a slice for a lifetime ν₁ under a name δ₁; what the call asks is stated with ns at m"""
+    local, whole, shape, is_now = 'ns', ARRAY, 'arr', 'is-nodes t _ ist'
 
     def __init__(self):
         super().__init__(Place('(ν₁ ∷ [])', 'fullShare', 'm', '0', 'δ₁'), 'x′', 's′')

@@ -36,8 +36,7 @@ class OnCopies(Shape):
         super().__init__(function, [coordinator, table], parameters, [output], [self.step], facts)
         # what STEP is passed: the two locals, and the rest as it came
         self.d, self.ns = LocalCoordinator(), LocalNodes()
-        self.d.stand(0, 0, 2)
-        self.ns.stand(1, 1, 2)
+        Arguments([self.d, self.ns]).stand()
         self.passed = Arguments([self.d, self.ns, *self.between, output])
         self.ends = self.passed.ends('ws')
 
@@ -136,7 +135,7 @@ class OnCopies(Shape):
         cell, place = f'cell {x.local}', f'{w.location(x.local)} 0'
         borrow, back, law = x.lending(w.location('d'), w.location('ns'))
         w.use([cell], x.whole.as_cell(f'{x.shape} {x.now}', place), cell)
-        w.push(x.whole.owned(x.now, x.proof_now), 'plain')
+        w.push(x.whole.owned(x.now, x.is_now), 'plain')
         w.use([cell, 'plain'], f'use2 W (later (some (λ (δ : GName). ‵ ({borrow}) ⊛ ‵ ({back})))) ({law}) $ await ! tt $ pick ! (λ {x.place.name}. split ! $',
               x.held, f'lent {x.local}')
 

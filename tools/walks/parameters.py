@@ -14,23 +14,23 @@ class Parameter:
     type, term          its type in the logic, and what it is there
     row, value, typed   its row, its value in the machine, and that this is of its type
     binds, knows        what a walk is given of it: what it is, and what is known of that
-    actual, proof       the same where the walk is used, from the statement's `a` and `are`
+    actual              what it is where the walk is used, from the statement's arguments `a`; actual_proof what is known of that, from its `are`
     vals, tells         the laws of its values
     stays, goes         the laws by which it comes to exit
     given, left         what a callee is given of it, and what is left of it at exit: an item, and the step that makes the item where the context has none
 
     and what stands here, where it is something else."""
-    uses = knows = proof = ''
+    uses = knows = actual_proof = ''
     temporaries = ()                                # the locals that the compiler adds to pass it on
     lifetime = share = None                         # those of a borrow
-    held = None                                     # the item that owns it from entry on; None where what is known makes that at any time
-    final = ()                                      # the items that are left of it, with what they say
-    lent = False                                    # whether it comes back changed, and then
-    last, end, kept = 'Unit {0}', 'tt', 'tt'        # the type of what it ends as, the name of that, and that a slice kept its length
+    held = None                                     # the item that owns it from entry on; None where that can be made at any time from what is known
+    final = ()                                      # the items that are left of it at exit, with what they say
+    lent = False                                    # whether it comes back changed; if so:
+    last, end, kept = 'Unit {0}', 'tt', 'tt'        # the type and the name of what it ends as, and the name of the proof that a slice kept its length
     own_line = False                                # layout: whether it is passed on a line of its own
 
     def stand(self, i, j, count):
-        """it is parameter i, with lifetime j of so many: what depends on this"""
+        """sets what depends on where it stands: it is parameter i, and its lifetime is j of so many"""
 
     def define(self, indent=2):
         """the abbreviations for it"""
@@ -59,14 +59,15 @@ class Value(Parameter):
 
     def __init__(self, name, of, term, value, proof):
         self.name = self.passed = name
-        self.type, self.term, self.row, self.value, self.typed = of.type, term, of.row, value, of.typed(term, proof)
+        self.type, self.term = of.type, term
+        self.row, self.value, self.typed = of.row, value, of.typed(term, proof)
         self.binds, self.knows = f'({term} : {of.type})', f'({proof} : Is {of.row} {term} ({of.listed(term)}))'
         self.vals, self.tells, self.stays = of.vals, of.tells, f'stay-none (λ _. {of.row}) yes'
         self.given = self.left = ('plain', of.owned(term, proof))
 
     def stand(self, i, j, count):
         """it stays what it is"""
-        self.actual, self.proof = f'({nth("a", i)})', f'({nth("are", i)})'
+        self.actual, self.actual_proof = f'({nth("a", i)})', f'({nth("are", i)})'
         self.goes = f'goes-none 𝓤 H A W {count} (λ _. {self.row}) yes (λ κs x f. refl)'
 
 
@@ -136,7 +137,7 @@ class Slice(Borrow):
     def stand(self, i, j, count):
         """and that there is room"""
         super().stand(i, j, count)
-        self.proof = f'({nth("are", i)} .0 .1)'
+        self.actual_proof = f'({nth("are", i)} .0 .1)'
 
     def define(self, indent=2):
         """the reference, and its value"""
@@ -166,9 +167,11 @@ class Bytes(Slice):
         w.use([self.held], f'use1 W (‵ ({self.own}) ⊛ ‵ ({self.own})) ({law}) $ split ! $', self.held, self.copied)
 
 
-def between(kinds):
-    """the parameters between what is lent for writing: u8, u64, usize, bytes, or the name of an enum"""
-    return [Bytes(k) if kind == 'bytes' else Number(k, kind) if kind in WIDTH else Case(k, kind) for k, kind in enumerate(kinds)]
+def parameter(k, kind):
+    """the k-th of the parameters between, by its kind: bytes, a number's type, or the name of an enum"""
+    if kind == 'bytes':
+        return Bytes(k)
+    return Number(k, kind) if kind in WIDTH else Case(k, kind)
 
 
 class Arguments(list):

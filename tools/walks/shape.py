@@ -3,7 +3,7 @@ import os
 
 from lent import LentSlice
 from names import LIBRARIES, OWN, dash, definitions, key, laws, shared, trimmed, types, walked
-from parameters import Arguments, between
+from parameters import Arguments, parameter
 from terms import ABOUT_WALK, G, abbrev, bound, consed, grouped, lemma, nest, nth
 from walk import Walk
 
@@ -11,8 +11,8 @@ ROOT = os.path.dirname(os.path.dirname(os.path.dirname(os.path.abspath(__file__)
 
 
 class Shape:
-    """The proof of one function. Its parameters are `before`, `between` and `after`; the outer ones are the shape's, and None where they are absent. A fact is
-    a text with holes: for other facts, by their names, and for what the shape fills in.
+    """The proof of one function. Its parameters are `before`, those of the kinds between, and `after`; the outer ones are the shape's, and None where they are
+    absent. A fact is a text with holes: for other facts, by their names, and for what the shape fills in.
 
     Each shape has the parts `head`, `known`, `contracts`, `setting`, `exits`, `asked` and `walk`; here are the other parts, and what those are made of."""
     alias = ''                  # under which the function's statement is imported
@@ -20,7 +20,7 @@ class Shape:
 
     def __init__(self, function, before, kinds, after, callees, facts):
         self.function, self.callees, self.facts = function, [callee for callee in callees if callee], facts
-        self.between = between(kinds)
+        self.between = [parameter(k, kind) for k, kind in enumerate(kinds)]
         self.bytes = [x for x in self.between if x.lifetime]
         self.outer, self.parameters = Arguments([*before, *after]), Arguments([*before, *self.between, *after])
         self.slices = [x for x in self.outer if isinstance(x, LentSlice)]
@@ -40,14 +40,14 @@ class Shape:
 
     def write(self):
         """writes the proof"""
-        folder = os.path.join(ROOT, 'crates', OWN, 'proofs', self.function)
+        folder, text = os.path.join(ROOT, 'crates', OWN, 'proofs', self.function), self.text()
         os.makedirs(folder, exist_ok=True)
         with open(os.path.join(folder, 'Proof.antt'), 'w', encoding='utf-8') as file:
-            file.write(self.text())
+            file.write(text)
 
     # The head.
     def imports(self, about, rows, first=(), own=()):
-        """the first line, and all imports; `first` are definitions, `own` what the panel's own proofs/ has"""
+        """the first line, and the imports: of definitions those named first, then all others; of the panel's own proofs/ those named"""
         return ''.join([
             f'-- `{OWN}::{self.function}`: {about} Written by tools/walks.\n', LIBRARIES, types(rows), definitions(*first), shared(*own), laws(rows),
             *(x.uses for x in self.between), *(callee.uses for callee in self.callees), walked(self.function, self.alias), '\n'])
@@ -119,7 +119,7 @@ class Shape:
                 f'    walk : ent 𝓤 ({entry}) (WpFn 𝓤 H C Λ code.function args Post)\n    walk =\n{w.text(last)}\n')
 
     def enter(self, names):
-        """a walk that has entered the function: with the locals, those of the parameters and then these, and the parameters in theirs"""
+        """a walk that has entered the function, with the locals of the parameters and then these, and has what is owned of each parameter"""
         w = Walk.at_entry(['return', *(x.name for x in self.parameters), *names])
         tokens = f'({self.parameters.tokens()})' if self.tokens_apart else 'toks'
         w.say(f'qed W ({tokens} ∷ ‵ (owns ({self.parameters.rows()}) a at) ∷ []) ∵ enter ! C Λ code.function args _ $')
@@ -169,7 +169,8 @@ class Shape:
         """the walk at lifetimes κs, shares qs, arguments a and what is known of these"""
         borrows = range(len(self.parameters.lifetimes))
         return ' '.join(['walk 𝓤 H A W at-mem run', *(f'({nth("κs", j)})' for j in borrows), *(f'({nth("qs", j)})' for j in borrows),
-                         *(x.actual for x in self.outer), *(x.proof for x in self.outer if x.proof), *(f'{x.actual} {x.proof}' for x in self.between)])
+                         *(x.actual for x in self.outer), *(x.actual_proof for x in self.outer if x.actual_proof),
+                         *(f'{x.actual} {x.actual_proof}' for x in self.between)])
 
     def walks(self):
         """the walk at all arguments"""

@@ -4,8 +4,11 @@ from terms import consed, fits, location
 
 
 class Walk:
-    """`ctx` is the context as a list of names, the head first; `locals` are the function's, by names, in the order of the code. The cell of a local is the
-    item `cell NAME`, what frees it `freeing NAME`. Each method appends a line of the walk to `lines` and changes `ctx` as the step does."""
+    """`ctx` is the context as a list of names, the head first, and `locals` are those of the function, by names, in the compiler's order. Each method appends a
+    line to `lines` and changes `ctx` as the step does.
+
+    Names of items: `cell X` is the cell of the local X and `freeing X` what frees it; `tokens` are those of several lifetimes and `owned` is what is owned of
+    several parameters, each as one item; `plain` is the ownership of something by value, which is made and given up at will."""
 
     def __init__(self, ctx, names=()):
         self.ctx, self.locals, self.lines = list(ctx), list(names), []
@@ -44,12 +47,12 @@ class Walk:
         if self.ctx[:len(names)] != list(names):
             self.move(*names)
         self.say(line)
-        self.ctx[:len(names)] = list(new)
+        self.ctx[:len(names)] = new
+        assert len(set(self.ctx)) == len(self.ctx), f'two items under one name: {new} among {self.ctx}'
 
     def push(self, line, name):
         """a step that adds an item: owned, nothing, lft-new"""
-        self.say(line)
-        self.ctx.insert(0, name)
+        self.use([], line, name)
 
     def drop(self, name):
         """gives an item up"""
