@@ -1,104 +1,169 @@
-"""The context of a walk, by names. A walk's steps take positions in its context; this computes them, so that none is counted by hand.
-`ctx` is the list of names, the head first. Each method appends a line of the walk to `out` and changes `ctx` as the step does."""
+"""The context of a walk, by names. A walk's steps take positions in its context, and its statements the positions of the locals' cells; this computes them,
+so that none is counted by hand."""
+from terms import consed, fits, location
 
 
 class Walk:
-    def __init__(self, ctx):
-        self.ctx, self.out = list(ctx), []
+    """`ctx` is the context as a list of names, the head first, and `locals` are those of the function, by names, in the compiler's order. Each method appends a
+    line to `lines` and changes `ctx` as the step does.
 
-    def at(self, name):
-        return self.ctx.index(name)
+    Names of items: `cell X` is the cell of the local X and `freeing X` what frees it; `tokens` are those of several lifetimes and `owned` is what is owned of
+    several parameters, each as one item; `plain` is the ownership of something by value, which is made and given up at will."""
+
+    def __init__(self, ctx, names=()):
+        self.ctx, self.locals, self.lines = list(ctx), list(names), []
+
+    @classmethod
+    def at_entry(cls, names):
+        """with the locals, the last in front; then the tokens, and what is owned of the parameters"""
+        return cls([item for name in reversed(names) for item in (f'cell {name}', f'freeing {name}')] + ['tokens', 'owned'], names)
 
     def say(self, line):
-        self.out.append(line)
-
-    def move(self, *names):
-        self.say('move ! (' + ''.join(f'{self.at(n)} ∷ ' for n in names) + '[]) $')
-        self.ctx = list(names) + [n for n in self.ctx if n not in names]
-
-    def drop(self, name):
-        if self.ctx[0] != name:
-            self.move(name)
-        self.say('drop ! $')
-        self.ctx.pop(0)
-
-    def split(self, name, a, b, how='split'):
-        if self.ctx[0] != name:
-            self.move(name)
-        self.say(f'{how} ! $')
-        self.ctx[:1] = [a, b]
-
-    def fsplit(self, name, a, b):
-        self.split(name, a, b, 'fsplit')
-
-    def join(self, a, b, name, how='join'):
-        if self.ctx[:2] != [a, b]:
-            self.move(a, b)
-        self.say(f'{how} ! $')
-        self.ctx[:2] = [name]
-
-    def fjoin(self, a, b, name):
-        self.join(a, b, name, 'fjoin')
-
-    def push(self, line, name):
-        """a step that adds an item: owned, nothing, lft-new"""
-        self.say(line)
-        self.ctx.insert(0, name)
-
-    def use(self, names, line, *new):
-        """a step that turns the items at the head into new ones: use1, use2, use3 and the like"""
-        if self.ctx[:len(names)] != list(names):
-            self.move(*names)
-        self.say(line)
-        self.ctx[:len(names)] = list(new)
-
-    # Statements of the code. The cell of local i is named ci, and what frees it di.
-    def c(self, i):
-        return self.at(f'c{i}')
-
-    def read(self, i):
-        return f'load ! (from ! (stop !)) (look ! {self.c(i)} refl)'
-
-    def field(self, i, f):
-        return f'load ! (from ! (fld ! refl (stop !))) (look-in ! {self.c(i)} (sub ! {f} refl (whole !)))'
-
-    def assign(self, i, value, typed):
-        self.say(f'assigns ! ({value}) (from ! (stop !)) (init ! {self.c(i)} refl {typed}) $')
-
-    def copy(self, i, operand, typed):
-        self.assign(i, f'of-opd ! ({operand})', typed)
-
-    def operands(self, xs):
-        r = '(no-more !)'
-        for x in reversed(xs):
-            r = f'(and-then ! ({x}) {r})'
-        return r
-
-    def aggregate(self, i, xs, typed):
-        self.assign(i, f'agg ! {self.operands(xs)}', typed)
-
-    def reborrow(self, source, reference, slice_, fits):
-        """_reference = &*_source.0; _slice = (_reference, _source.1)"""
-        self.assign(reference, f'addr ! (from ! (fld ! refl (hop ! (look-in ! {self.c(source)} (sub ! 0 refl (whole !))) (stop !))))', '(tt, tt)')
-        self.aggregate(slice_, [self.read(reference), self.field(source, 1)], f'(tt, (tt, (record {{ fits = {fits} }}, tt)))')
-
-    def land(self, i, typed):
-        self.say(f'land ! (from ! (stop !)) (init ! {self.c(i)} refl {typed}) $')
-
-    def leave(self, count):
-        """returns, and frees the locals, _0 first"""
-        self.say(f'returns ! (look ! {self.c(0)} refl) $ ' + ' '.join(f'forget ! {self.c(i)} refl $' for i in range(count)))
-        for i in range(count):
-            self.move(f'c{i}', f'd{i}')
-            self.say('free1 ! $')
-            self.ctx = self.ctx[2:]
-        self.say('free0 ! $')
-
-    def keep(self, *names):
-        self.say('keep ! (' + ''.join(f'{self.at(n)} ∷ ' for n in names) + '[]) $')
-        self.ctx = list(names)
+        """a line that leaves the context as it is"""
+        self.lines.append(line)
 
     def text(self, last, indent=8):
         """the walk's lines, closed by the last one"""
-        open_ = sum(s.count('(') - s.count(')') for s in self.out + [last] if not s.startswith('--'))
-        return ''.join(' ' * indent + s + '\n' for s in self.out + [last + ')' * open_])
+        steps = [line for line in self.lines if not line.startswith('--')] + [last]
+        open_ = sum(step.count('(') - step.count(')') for step in steps)
+        return ''.join(' ' * indent + line + '\n' for line in self.lines + [last + ')' * open_])
+
+    # Items.
+    def at(self, name):
+        """the position of an item"""
+        return self.ctx.index(name)
+
+    def positions(self, names):
+        """those of several, as a list of the proofs' language"""
+        return consed(str(self.at(name)) for name in names)
+
+    def move(self, *names):
+        """brings items to the head"""
+        self.say(f'move ! ({self.positions(names)}) $')
+        self.ctx = list(names) + [name for name in self.ctx if name not in names]
+
+    def use(self, names, line, *new):
+        """a step that turns the items at the head into new ones"""
+        if self.ctx[:len(names)] != list(names):
+            self.move(*names)
+        self.say(line)
+        self.ctx[:len(names)] = new
+        assert len(set(self.ctx)) == len(self.ctx), f'two items under one name: {new} among {self.ctx}'
+
+    def push(self, line, name):
+        """a step that adds an item: owned, nothing, lft-new"""
+        self.use([], line, name)
+
+    def drop(self, name):
+        """gives an item up"""
+        self.use([name], 'drop ! $')
+
+    def split(self, name, one, other):
+        """an item into two"""
+        self.use([name], 'split ! $', one, other)
+
+    def fsplit(self, name, one, other):
+        """the same for a formula"""
+        self.use([name], 'fsplit ! $', one, other)
+
+    def join(self, one, other, name):
+        """two items into one"""
+        self.use([one, other], 'join ! $', name)
+
+    def fjoin(self, one, other, name):
+        """the same for formulas"""
+        self.use([one, other], 'fjoin ! $', name)
+
+    def keep(self, names):
+        """gives up all other items"""
+        self.say(f'keep ! ({self.positions(names)}) $')
+        self.ctx = list(names)
+
+    # Tokens and ownership of several parameters.
+    def tokens_apart(self, lifetimes):
+        """the tokens, each under its lifetime's name"""
+        for lifetime in lifetimes:
+            self.split('tokens', lifetime, 'tokens')
+        self.drop('tokens')
+
+    def tokens_together(self, lifetimes):
+        """the way back"""
+        self.push('nothing ! $', 'tokens')
+        for lifetime in reversed(lifetimes):
+            self.join(lifetime, 'tokens', 'tokens')
+
+    def gather(self, parts):
+        """`owned`: the parts together. A part is the name of an item, with the step that makes it where it is not there yet."""
+        self.push('nothing ! $', 'owned')
+        for name, step in reversed(parts):
+            if step:
+                self.push(step, name)
+            self.fjoin(name, 'owned', 'owned')
+
+    # Statements of the code.
+    def cell(self, local):
+        """the position of a local's cell"""
+        return self.at(f'cell {local}')
+
+    def location(self, local):
+        """where a local stands"""
+        return location(self.locals.index(local))
+
+    def read(self, local):
+        """an operand: the local"""
+        return f'load ! (from ! (stop !)) (look ! {self.cell(local)} refl)'
+
+    def field(self, local, i):
+        """an operand: field i of the local"""
+        return f'load ! (from ! (fld ! refl (stop !))) (look-in ! {self.cell(local)} (sub ! {i} refl (whole !)))'
+
+    def operands(self, operands):
+        """several operands"""
+        text = '(no-more !)'
+        for operand in reversed(operands):
+            text = f'(and-then ! ({operand}) {text})'
+        return text
+
+    def through(self, local):
+        """the place that the reference in a local leads to"""
+        return f'hop ! (look ! {self.cell(local)} refl) (stop !)'
+
+    def assign(self, local, value, typed):
+        """local = value"""
+        self.say(f'assigns ! ({value}) (from ! (stop !)) (init ! {self.cell(local)} refl {typed}) $')
+
+    def copy(self, local, operand, typed):
+        """local = operand"""
+        self.assign(local, f'of-opd ! ({operand})', typed)
+
+    def aggregate(self, local, operands, typed):
+        """local = (operands)"""
+        self.assign(local, f'agg ! {self.operands(operands)}', typed)
+
+    def address(self, local, place='stop !'):
+        """local = &place"""
+        self.assign(local, f'addr ! (from ! ({place}))', '(tt, tt)')
+
+    def reborrow(self, source, to, room):
+        """to.ref = &*source.0; to.slice = (to.ref, source.1)"""
+        self.address(f'{to}.ref', f'fld ! refl (hop ! (look-in ! {self.cell(source)} (sub ! 0 refl (whole !))) (stop !))')
+        self.aggregate(f'{to}.slice', [self.read(f'{to}.ref'), self.field(source, 1)], fits(room))
+
+    def land(self, local, typed):
+        """local = what the call gave"""
+        self.say(f'land ! (from ! (stop !)) (init ! {self.cell(local)} refl {typed}) $')
+
+    def spell(self, local, row, term, proof, bound):
+        """the value of a local is that of the term, so that its fields can be read"""
+        cell = f'λ ({bound} : Val). ‵ (fat fullShare {row.mirror} {self.location(local)} 0 {bound})'
+        self.say(f'rewrite ! {self.cell(local)} ({cell}) (ap only ({row.tells} {term} _ {proof})) refl $')
+
+    def leave(self):
+        """returns, and frees the locals"""
+        forgets = ' '.join(f'forget ! {self.cell(local)} refl $' for local in self.locals)
+        self.say(f'returns ! (look ! {self.cell(self.locals[0])} refl) $ {forgets}')
+        for local in self.locals:
+            self.move(f'cell {local}', f'freeing {local}')
+            self.say('free1 ! $')
+            self.ctx = self.ctx[2:]
+        self.say('free0 ! $')

@@ -1,0 +1,226 @@
+"""What is lent for writing: coordinator, nodes and output as parameters, and the locals that a function lends itself."""
+from parameters import Borrow, Place, Slice, marked
+from rows import ARRAY, COORDINATOR, NODE, U8
+from terms import abbrev, grouped, nth, token
+
+
+class LentSlice(Slice):
+    """`&mut [T]`, given to a callee for good: at exit there is what it ended as, of the same length"""
+    lent = True
+
+    def __init__(self, name, place, term, value, of, now, room, end, kept):
+        super().__init__(name, place, term, value, of, now, room)
+        self.last, self.end, self.kept, self.length = f'List {of.type}', end, kept, f'l{end[0]}'
+        self.temporaries, self.passed = (f'{name}.ref', f'{name}.slice'), f'{name}.slice'
+        self.final = [(self.ended, f'‵ (finally {of.row} {place.name} {end})')]
+
+    def stand(self, i, j, count):
+        """it is given up"""
+        super().stand(i, j, count)
+        row = self.of.row
+        self.row, self.tells = f'MutSlice (named {j}) {self.lifetime} {row}', f'mut-slice-tells (named {j}) ({nth("κs", j)}) {row}'
+        self.stays = f'gave-slice ({j} ∷ []) tt (plain (λ _. {row}))'
+        self.goes = f'goes-gave-slice 𝓤 H A W {count} {j} tt (plain (λ _. {row}))'
+
+    def same_length(self):
+        """that it ended as long as it was"""
+        return f'length {self.end} ≡ length {self.now}'
+
+    def reborrow(self, w, to=None):
+        """&mut *it, in its temporaries, or in those of another name"""
+        w.reborrow(self.name, to or self.name, self.room)
+
+    def take_last(self, w):
+        """its part is what comes next"""
+        w.fsplit('lasts', 'last', 'lasts')
+        self.take_ended(w)
+
+    def take_rest(self, w):
+        """its part is what comes next, and nothing that follows is of use"""
+        w.fsplit('lasts', 'last', 'lasts')
+        w.drop('lasts')
+        self.take_ended(w)
+
+    def take_ended(self, w):
+        """what it ended as, and that it kept its length"""
+        w.fsplit('last', self.ended, 'kept')
+        w.use(['kept'], f'feqL ! (λ {self.length}.')
+
+
+class Nodes(LentSlice):
+    """the nodes"""
+
+    def __init__(self, place=marked('₁'), term='x', value='s₁'):
+        super().__init__('nodes', place, term, value, NODE, 'ys', 'room₁', 'zs', 'l₁')
+
+
+class SharedNodes(Nodes):
+    """the nodes, which one callee reads, under another name, before another is given them for good; the proof has `N-own` for owning them"""
+    shared = 'ShrSlice (named 0) (ν ∷ []) T.the-row .own (x δ) (s₁ ∷ [])'
+    sharing = 'T.the-row κ₁ (ν ∷ []) q₁ γ₁ b₁ o₁'
+
+    def __init__(self):
+        super().__init__(term='x γ₁')
+
+    def reference(self, indent):
+        """the term for it, under any name"""
+        return abbrev('x', f'GName → {self.type}', self.named('δ'), 'δ', indent)
+
+    def share_out(self, w):
+        """for a new lifetime ν a shared slice under a new name δ, and what gives the nodes back when ν has ended"""
+        law = f'shares-again {self.sharing} 𝓤 H A W (named {self.j}) (named 0) ys'
+        w.push('lft-new ! tt (λ ν.', 'ν')
+        w.use([self.held, self.lifetime], f'use2 W (later (some (λ (δ : GName). ‵ ({self.shared}) ⊛ ‵ (Shared {self.sharing} ys)))) ({law})'
+              ' $ await ! tt $ pick ! (λ δ. split ! $', 'shared nodes', 'sharing nodes')
+
+    def unshare(self, w):
+        """ends ν"""
+        law = f'unshared {self.sharing} 𝓤 H A W (named {self.j}) (named 0) ys room₁'
+        w.use(['ν'], 'lft-end ! tt $', 'dead ν')
+        w.use(['dead ν', 'sharing nodes'], f'use2 W (later (‵ N-own ⊛ ‵ (flft κ₁ q₁))) ({law}) $ await ! tt $ split ! $', self.held, self.lifetime)
+
+
+class Output(LentSlice):
+    """the output, the last parameter"""
+
+    def __init__(self, mark='₂', kept='l₂'):
+        super().__init__('out', marked(mark), 'w', f's{mark}', U8, 'os', f'room{mark}', 'us', kept)
+
+    def take_last(self, w):
+        """nothing follows"""
+        self.take_rest(w)
+
+
+class LentRecord(Borrow):
+    """`&mut T`, given to a callee for good: at exit there is what it ended as"""
+    vals, typed, lent = 'ptr-vals', '(tt, tt)', True
+
+    def __init__(self, name, place, term, of, now, end):
+        super().__init__(name, place, term, of.type, now)
+        self.of, self.value, self.last, self.end = of, f'vptr {place.block} {place.offset}', of.type, end
+        self.temporaries, self.passed = (f'{name}.ref',), f'{name}.ref'
+        self.code = f'{of.row} .coded .code {grouped(end)}'
+        self.final = [(self.ended, f'‵ (fres {place.name} ({self.code}))')]
+
+    def stand(self, i, j, count):
+        """it is given up"""
+        super().stand(i, j, count)
+        row = self.of.row
+        self.row, self.tells = f'MutRef (named {j}) {self.lifetime} {row}', f'mut-tells (named {j}) ({nth("κs", j)}) {row}'
+        self.stays = f'gave-ref ({j} ∷ []) tt (plain (λ _. {row}))'
+        self.goes = f'goes-gave-ref 𝓤 H A W {count} {j} tt (plain (λ _. {row}))'
+
+    def reborrow(self, w):
+        """&mut *it, in its temporary"""
+        w.address(f'{self.name}.ref', w.through(self.name))
+
+    def take_last(self, w):
+        """its part is what comes next"""
+        w.fsplit('lasts', self.ended, 'lasts')
+
+
+class Coordinator(LentRecord):
+    """the coordinator"""
+
+    def __init__(self, place=marked('₀'), term='c'):
+        super().__init__('coordinator', place, term, COORDINATOR, 'h', 'k')
+
+
+class KeptRecord(LentRecord):
+    """`&mut T`, whose borrow the function opens, and closes before exit. `shape` is the proof's name for the function to values."""
+    own_line = True
+
+    def __init__(self, name, place, term, of, now, end, shape):
+        super().__init__(name, place, term, of, now, end)
+        self.shape, self.where, self.left = shape, f'{place.block} {place.offset}', (self.held, None)
+        self.observed, self.borrowed = f'observed {name}', f'borrowed {name}'
+        self.record, self.opened = f'record {name}', [f'open {name}', self.observed, f'authority {name}']
+        self.final = [(self.observed, f'‵ (fobs {place.name} ({self.code}))'),
+                      (self.borrowed, f'‵ (fbor {self.lifetime} (Body (mem {of.row}) {self.where} {place.name}))')]
+
+    def stand(self, i, j, count):
+        """it is kept"""
+        super().stand(i, j, count)
+        self.stays = f'stay-ref ({j} ∷ []) tt (plain (λ _. {self.of.row}))'
+        self.goes = f'goes-ref 𝓤 H A W {count} {j} tt (plain (λ _. {self.of.row}))'
+
+    def define(self, indent=2):
+        """the reference, and the function to values"""
+        return self.reference(indent) + abbrev(self.shape, f'{self.of.type} → Val', self.of.shape, indent=indent)
+
+    def final_and_token(self):
+        """in the order in which a closed borrow leaves them"""
+        return [*self.final, (self.lifetime, token(self.lifetime, self.share))]
+
+    def put_together(self, w):
+        """the borrow, and what it is of"""
+        w.push(f'feqI ! (List Val) ({self.value} ∷ []) ({self.value} ∷ []) refl $', 'address')
+        w.use(['address', self.observed, self.borrowed], 'fjoin3 ! $', self.held)
+
+    def open(self, w, proof):
+        """opens the borrow: the record as a cell, known to be right by a proof, and what closes it again"""
+        value = f'{self.shape} {self.now}'
+        w.use([self.held], 'fsplit3 ! $', 'address', self.observed, self.borrowed)
+        w.drop('address')
+        opens = f'opens ! tt {self.of.row} {{h = {self.now}}} {self.where} (λ vs. {self.of.spelt(self.now, "vs", self.where)}'
+        w.use([self.observed, self.borrowed, self.lifetime], opens, self.record, 'plain', *self.opened)
+        w.use(['plain'], self.of.peeks(self.now, value, proof))
+        w.use([self.record], self.of.as_local(value, self.where), self.record)
+
+    def read(self, w):
+        """an operand: *it"""
+        return f'load ! (from ! ({w.through(self.name)})) (look ! {w.at(self.record)} refl)'
+
+    def write(self, w, operand, typed):
+        """*it = operand"""
+        w.say(f'assigns ! (of-opd ! ({operand})) (from ! ({w.through(self.name)})) (store ! {w.at(self.record)} refl {typed}) $')
+
+    def close(self, w, proof):
+        """closes the borrow, on what the record ends as, known to be right by a proof"""
+        value = f'{self.shape} {grouped(self.end)}'
+        w.use([self.record], self.of.as_cell(value, self.where), self.record)
+        w.push(self.of.owned(self.end, proof), 'plain')
+        closes = f'closes ! tt {self.of.row} {grouped(self.end)} ({value} ∷ []) {self.where} $'
+        w.use([self.record, 'plain', *self.opened], closes, self.observed, self.borrowed, self.lifetime)
+
+
+class KeptCoordinator(KeptRecord):
+    """the coordinator, read and written by the function itself"""
+
+    def __init__(self, end):
+        super().__init__('coordinator', marked('₀'), 'c', COORDINATOR, 'h', end, 'coord')
+
+
+class LocalCoordinator(Coordinator):
+    """The coordinator in a local d, lent for a lifetime ν₀ under a name δ₀; what the call asks is stated with d at l. `whole` is the row of the local, `shape`
+    the proof's name for its function to values, `is_now` that the value is right."""
+    local, whole, shape, is_now = 'd', COORDINATOR, 'coord', 'ish'
+
+    def __init__(self):
+        super().__init__(Place('(ν₀ ∷ [])', 'fullShare', 'l', '0', 'δ₀'), 'c′')
+
+    def lending(self, l, m):
+        """the borrow under a name δ, what gives the local back, and the law for both"""
+        return (f'{self.row} .own (c′ ν₀ ν₁ δ δ {l} {m}) (vptr {l} 0 ∷ [])', f'flent (ν₀ ∷ []) (Body (mem K.the-row) {l} 0 δ)',
+                f'lends-local 𝓤 H A W K.the-row (named 0) (ν₀ ∷ []) h _ {l} 0')
+
+    def giving_back(self, end, place):
+        """the law that gives the local back"""
+        return f'local-back 𝓤 H A W K.the-row (ν₀ ∷ []) δ₀ ({end}) {place}'
+
+
+class LocalNodes(Nodes):
+    """the nodes in a local array ns, lent as a slice for a lifetime ν₁ under a name δ₁; what the call asks is stated with ns at m"""
+    local, whole, shape, is_now = 'ns', ARRAY, 'arr', 'is-nodes t _ ist'
+
+    def __init__(self):
+        super().__init__(Place('(ν₁ ∷ [])', 'fullShare', 'm', '0', 'δ₁'), 'x′', 's′')
+
+    def lending(self, l, m):
+        """the borrow under a name δ, what gives the local back, and the law for both"""
+        return (f'{self.row} .own (x′ ν₀ ν₁ δ₀ δ {l} {m}) (sliceVal ({m}, 0) (length ys) ∷ [])', f'flent (ν₁ ∷ []) (Held T.the-row (length ys) {m} 0 δ)',
+                f'lends-array 𝓤 H A W T.the-row tt 40 (named 1) (ν₁ ∷ []) ys _ {m} 0 room₁')
+
+    def giving_back(self, end, place):
+        """the law that gives the local back"""
+        return f'array-back 𝓤 H A W T.the-row (ν₁ ∷ []) δ₁ ({end}) 40 {place}'
