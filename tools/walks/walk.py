@@ -162,8 +162,10 @@ class Walk:
         """returns, and frees the locals"""
         forgets = ' '.join(f'forget ! {self.cell(local)} refl $' for local in self.locals)
         self.say(f'returns ! (look ! {self.cell(self.locals[0])} refl) $ {forgets}')
+        frees = len(self.lines)
         for local in self.locals:
             self.move(f'cell {local}', f'freeing {local}')
             self.say('free1 ! $')
             self.ctx = self.ctx[2:]
         self.say('free0 ! $')
+        self.lines[frees:] = [' '.join(self.lines[frees:])]

@@ -307,41 +307,7 @@ module _ {M : Type 1} (𝓤 : URA M) (H : Heap 𝓤) (A : Atoms 𝓤) (W : Given
         assigns ! (of-opd ! (load ! (from ! (stop !)) (look ! 1 refl))) (from ! (stop !)) (init ! 4 refl (LL.lawful K.the-type K′.the-laws 𝓤 H A W .typed (ws .0) _ isk .0)) $
         assigns ! (agg ! (and-then ! (load ! (from ! (stop !)) (look ! 4 refl)) (and-then ! (load ! (from ! (stop !)) (look ! 14 refl)) (and-then ! (load ! (from ! (stop !)) (look ! 16 refl)) (no-more !))))) (from ! (stop !)) (init ! 34 refl (LL.lawful S.the-type S′.the-laws 𝓤 H A W .typed (made (ws .0) (ws .1 .0) y) _ (is-made (ws .0) (ws .1 .0) y isk isn (is-y y z isz)) .0)) $
         returns ! (look ! 34 refl) $ forget ! 34 refl $ forget ! 32 refl $ forget ! 30 refl $ forget ! 28 refl $ forget ! 26 refl $ forget ! 24 refl $ forget ! 22 refl $ forget ! 20 refl $ forget ! 1 refl $ forget ! 0 refl $ forget ! 16 refl $ forget ! 14 refl $ forget ! 12 refl $ forget ! 10 refl $ forget ! 8 refl $ forget ! 6 refl $ forget ! 4 refl $
-        move ! (34 ∷ 35 ∷ []) $
-        free1 ! $
-        move ! (32 ∷ 33 ∷ []) $
-        free1 ! $
-        move ! (30 ∷ 31 ∷ []) $
-        free1 ! $
-        move ! (28 ∷ 29 ∷ []) $
-        free1 ! $
-        move ! (26 ∷ 27 ∷ []) $
-        free1 ! $
-        move ! (24 ∷ 25 ∷ []) $
-        free1 ! $
-        move ! (22 ∷ 23 ∷ []) $
-        free1 ! $
-        move ! (20 ∷ 21 ∷ []) $
-        free1 ! $
-        move ! (1 ∷ 19 ∷ []) $
-        free1 ! $
-        move ! (0 ∷ 17 ∷ []) $
-        free1 ! $
-        move ! (14 ∷ 15 ∷ []) $
-        free1 ! $
-        move ! (12 ∷ 13 ∷ []) $
-        free1 ! $
-        move ! (10 ∷ 11 ∷ []) $
-        free1 ! $
-        move ! (8 ∷ 9 ∷ []) $
-        free1 ! $
-        move ! (6 ∷ 7 ∷ []) $
-        free1 ! $
-        move ! (4 ∷ 5 ∷ []) $
-        free1 ! $
-        move ! (2 ∷ 3 ∷ []) $
-        free1 ! $
-        free0 ! $
+        move ! (34 ∷ 35 ∷ []) $ free1 ! $ move ! (32 ∷ 33 ∷ []) $ free1 ! $ move ! (30 ∷ 31 ∷ []) $ free1 ! $ move ! (28 ∷ 29 ∷ []) $ free1 ! $ move ! (26 ∷ 27 ∷ []) $ free1 ! $ move ! (24 ∷ 25 ∷ []) $ free1 ! $ move ! (22 ∷ 23 ∷ []) $ free1 ! $ move ! (20 ∷ 21 ∷ []) $ free1 ! $ move ! (1 ∷ 19 ∷ []) $ free1 ! $ move ! (0 ∷ 17 ∷ []) $ free1 ! $ move ! (14 ∷ 15 ∷ []) $ free1 ! $ move ! (12 ∷ 13 ∷ []) $ free1 ! $ move ! (10 ∷ 11 ∷ []) $ free1 ! $ move ! (8 ∷ 9 ∷ []) $ free1 ! $ move ! (6 ∷ 7 ∷ []) $ free1 ! $ move ! (4 ∷ 5 ∷ []) $ free1 ! $ move ! (2 ∷ 3 ∷ []) $ free1 ! $ free0 ! $
         keep ! (0 ∷ 1 ∷ []) $
         by ! (exits (ws .0) (ws .1 .0) y e (is-made (ws .0) (ws .1 .0) y isk isn (is-y y z isz))))))))))))))))))))))))))))))))))
 

@@ -324,41 +324,7 @@ module _ {M : Type 1} (𝓤 : URA M) (H : Heap 𝓤) (A : Atoms 𝓤) (W : Given
         assigns ! (of-opd ! (load ! (from ! (stop !)) (look ! 1 refl))) (from ! (stop !)) (init ! 6 refl (LL.lawful K.the-type K′.the-laws 𝓤 H A W .typed (ws .0) _ isk .0)) $
         assigns ! (agg ! (and-then ! (load ! (from ! (stop !)) (look ! 6 refl)) (and-then ! (load ! (from ! (stop !)) (look ! 20 refl)) (and-then ! (load ! (from ! (stop !)) (look ! 22 refl)) (no-more !))))) (from ! (stop !)) (init ! 36 refl (LL.lawful S.the-type S′.the-laws 𝓤 H A W .typed (made (ws .0) (ws .1 .0) y) _ (is-made (ws .0) (ws .1 .0) y isk isn (is-y y z isz)) .0)) $
         returns ! (look ! 36 refl) $ forget ! 36 refl $ forget ! 34 refl $ forget ! 32 refl $ forget ! 30 refl $ forget ! 28 refl $ forget ! 26 refl $ forget ! 1 refl $ forget ! 0 refl $ forget ! 22 refl $ forget ! 20 refl $ forget ! 18 refl $ forget ! 16 refl $ forget ! 14 refl $ forget ! 12 refl $ forget ! 10 refl $ forget ! 8 refl $ forget ! 6 refl $
-        move ! (36 ∷ 37 ∷ []) $
-        free1 ! $
-        move ! (34 ∷ 35 ∷ []) $
-        free1 ! $
-        move ! (32 ∷ 33 ∷ []) $
-        free1 ! $
-        move ! (30 ∷ 31 ∷ []) $
-        free1 ! $
-        move ! (28 ∷ 29 ∷ []) $
-        free1 ! $
-        move ! (26 ∷ 27 ∷ []) $
-        free1 ! $
-        move ! (1 ∷ 25 ∷ []) $
-        free1 ! $
-        move ! (0 ∷ 23 ∷ []) $
-        free1 ! $
-        move ! (20 ∷ 21 ∷ []) $
-        free1 ! $
-        move ! (18 ∷ 19 ∷ []) $
-        free1 ! $
-        move ! (16 ∷ 17 ∷ []) $
-        free1 ! $
-        move ! (14 ∷ 15 ∷ []) $
-        free1 ! $
-        move ! (12 ∷ 13 ∷ []) $
-        free1 ! $
-        move ! (10 ∷ 11 ∷ []) $
-        free1 ! $
-        move ! (8 ∷ 9 ∷ []) $
-        free1 ! $
-        move ! (6 ∷ 7 ∷ []) $
-        free1 ! $
-        move ! (4 ∷ 5 ∷ []) $
-        free1 ! $
-        free0 ! $
+        move ! (36 ∷ 37 ∷ []) $ free1 ! $ move ! (34 ∷ 35 ∷ []) $ free1 ! $ move ! (32 ∷ 33 ∷ []) $ free1 ! $ move ! (30 ∷ 31 ∷ []) $ free1 ! $ move ! (28 ∷ 29 ∷ []) $ free1 ! $ move ! (26 ∷ 27 ∷ []) $ free1 ! $ move ! (1 ∷ 25 ∷ []) $ free1 ! $ move ! (0 ∷ 23 ∷ []) $ free1 ! $ move ! (20 ∷ 21 ∷ []) $ free1 ! $ move ! (18 ∷ 19 ∷ []) $ free1 ! $ move ! (16 ∷ 17 ∷ []) $ free1 ! $ move ! (14 ∷ 15 ∷ []) $ free1 ! $ move ! (12 ∷ 13 ∷ []) $ free1 ! $ move ! (10 ∷ 11 ∷ []) $ free1 ! $ move ! (8 ∷ 9 ∷ []) $ free1 ! $ move ! (6 ∷ 7 ∷ []) $ free1 ! $ move ! (4 ∷ 5 ∷ []) $ free1 ! $ free0 ! $
         keep ! (1 ∷ 3 ∷ 0 ∷ 2 ∷ []) $
         by ! (exits (ws .0) (ws .1 .0) y (ws .1 .1 .1 .1 .0) lu e (is-made (ws .0) (ws .1 .0) y isk isn (is-y y z isz)))))))))))))))))))))))))))))))))))
 

@@ -213,37 +213,7 @@ module _ {M : Type 1} (𝓤 : URA M) (H : Heap 𝓤) (A : Atoms 𝓤) (W : Given
           assigns ! (of-opd ! (load ! (from ! (stop !)) (look ! 0 refl))) (from ! (stop !)) (init ! 3 refl (array-lawful 𝓤 H A W T.the-row (LL.lawful T.the-type T′.the-laws 𝓤 H A W) 40 .typed (zs (s .i)) _ isn .0)) $
           assigns ! (agg ! (and-then ! (load ! (from ! (stop !)) (look ! 3 refl)) (no-more !))) (from ! (stop !)) (init ! 30 refl (LL.lawful B.the-type B′.the-laws 𝓤 H A W .typed (record { nodes = zs (s .i) }) _ (is-table (zs (s .i)) isn) .0)) $
           returns ! (look ! 30 refl) $ forget ! 30 refl $ forget ! 28 refl $ forget ! 26 refl $ forget ! 24 refl $ forget ! 0 refl $ forget ! 21 refl $ forget ! 19 refl $ forget ! 17 refl $ forget ! 3 refl $
-          move ! (30 ∷ 31 ∷ []) $
-          free1 ! $
-          move ! (28 ∷ 29 ∷ []) $
-          free1 ! $
-          move ! (26 ∷ 27 ∷ []) $
-          free1 ! $
-          move ! (24 ∷ 25 ∷ []) $
-          free1 ! $
-          move ! (0 ∷ 23 ∷ []) $
-          free1 ! $
-          move ! (20 ∷ 21 ∷ []) $
-          free1 ! $
-          move ! (18 ∷ 19 ∷ []) $
-          free1 ! $
-          move ! (16 ∷ 17 ∷ []) $
-          free1 ! $
-          move ! (14 ∷ 15 ∷ []) $
-          free1 ! $
-          move ! (12 ∷ 13 ∷ []) $
-          free1 ! $
-          move ! (10 ∷ 11 ∷ []) $
-          free1 ! $
-          move ! (8 ∷ 9 ∷ []) $
-          free1 ! $
-          move ! (6 ∷ 7 ∷ []) $
-          free1 ! $
-          move ! (4 ∷ 5 ∷ []) $
-          free1 ! $
-          move ! (2 ∷ 3 ∷ []) $
-          free1 ! $
-          free0 ! $
+          move ! (30 ∷ 31 ∷ []) $ free1 ! $ move ! (28 ∷ 29 ∷ []) $ free1 ! $ move ! (26 ∷ 27 ∷ []) $ free1 ! $ move ! (24 ∷ 25 ∷ []) $ free1 ! $ move ! (0 ∷ 23 ∷ []) $ free1 ! $ move ! (20 ∷ 21 ∷ []) $ free1 ! $ move ! (18 ∷ 19 ∷ []) $ free1 ! $ move ! (16 ∷ 17 ∷ []) $ free1 ! $ move ! (14 ∷ 15 ∷ []) $ free1 ! $ move ! (12 ∷ 13 ∷ []) $ free1 ! $ move ! (10 ∷ 11 ∷ []) $ free1 ! $ move ! (8 ∷ 9 ∷ []) $ free1 ! $ move ! (6 ∷ 7 ∷ []) $ free1 ! $ move ! (4 ∷ 5 ∷ []) $ free1 ! $ move ! (2 ∷ 3 ∷ []) $ free1 ! $ free0 ! $
           keep ! (0 ∷ 1 ∷ []) $
           by ! (exits (record { nodes = zs (s .i) }) _ (full s e) (is-table (zs (s .i)) isn))))
 

@@ -289,37 +289,7 @@ module _ {M : Type 1} (𝓤 : URA M) (H : Heap 𝓤) (A : Atoms 𝓤) (W : Given
         land ! (from ! (stop !)) (init ! 6 refl (nothing-lawful 𝓤 H A W .typed j _ isj .0)) $
         assigns ! (of-opd ! (load ! (from ! (fld ! refl (stop !))) (look-in ! 12 (sub ! 1 refl (whole !))))) (from ! (stop !)) (init ! 30 refl (uint-lawful 𝓤 H A W w64 .typed (r .answer) _ (is-answer r _ isr) .0)) $
         returns ! (look ! 30 refl) $ forget ! 30 refl $ forget ! 28 refl $ forget ! 26 refl $ forget ! 24 refl $ forget ! 22 refl $ forget ! 20 refl $ forget ! 18 refl $ forget ! 16 refl $ forget ! 14 refl $ forget ! 12 refl $ forget ! 10 refl $ forget ! 8 refl $ forget ! 6 refl $ forget ! 4 refl $ forget ! 2 refl $
-        move ! (30 ∷ 31 ∷ []) $
-        free1 ! $
-        move ! (28 ∷ 29 ∷ []) $
-        free1 ! $
-        move ! (26 ∷ 27 ∷ []) $
-        free1 ! $
-        move ! (24 ∷ 25 ∷ []) $
-        free1 ! $
-        move ! (22 ∷ 23 ∷ []) $
-        free1 ! $
-        move ! (20 ∷ 21 ∷ []) $
-        free1 ! $
-        move ! (18 ∷ 19 ∷ []) $
-        free1 ! $
-        move ! (16 ∷ 17 ∷ []) $
-        free1 ! $
-        move ! (14 ∷ 15 ∷ []) $
-        free1 ! $
-        move ! (12 ∷ 13 ∷ []) $
-        free1 ! $
-        move ! (10 ∷ 11 ∷ []) $
-        free1 ! $
-        move ! (8 ∷ 9 ∷ []) $
-        free1 ! $
-        move ! (6 ∷ 7 ∷ []) $
-        free1 ! $
-        move ! (4 ∷ 5 ∷ []) $
-        free1 ! $
-        move ! (2 ∷ 3 ∷ []) $
-        free1 ! $
-        free0 ! $
+        move ! (30 ∷ 31 ∷ []) $ free1 ! $ move ! (28 ∷ 29 ∷ []) $ free1 ! $ move ! (26 ∷ 27 ∷ []) $ free1 ! $ move ! (24 ∷ 25 ∷ []) $ free1 ! $ move ! (22 ∷ 23 ∷ []) $ free1 ! $ move ! (20 ∷ 21 ∷ []) $ free1 ! $ move ! (18 ∷ 19 ∷ []) $ free1 ! $ move ! (16 ∷ 17 ∷ []) $ free1 ! $ move ! (14 ∷ 15 ∷ []) $ free1 ! $ move ! (12 ∷ 13 ∷ []) $ free1 ! $ move ! (10 ∷ 11 ∷ []) $ free1 ! $ move ! (8 ∷ 9 ∷ []) $ free1 ! $ move ! (6 ∷ 7 ∷ []) $ free1 ! $ move ! (4 ∷ 5 ∷ []) $ free1 ! $ move ! (2 ∷ 3 ∷ []) $ free1 ! $ free0 ! $
         keep ! (0 ∷ 1 ∷ []) $
         by ! (exits r (zs .0) lz (amend-in-place ys (zs .0) e0 e1 e2 e3 e4 t r et (forty r _ isr) er ez) (is-answer r _ isr))))))))))))))))))))))))))))))))))
 

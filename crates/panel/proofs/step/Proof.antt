@@ -377,41 +377,7 @@ module _ {M : Type 1} (𝓤 : URA M) (H : Heap 𝓤) (A : Atoms 𝓤) (W : Given
         closes ! tt K.the-row (r .coordinator) (coord (r .coordinator) ∷ []) b₀ o₀ $
         assigns ! (of-opd ! (load ! (from ! (fld ! refl (stop !))) (look-in ! 25 (sub ! 2 refl (whole !))))) (from ! (stop !)) (init ! 41 refl (LL.lawful An.the-type An′.the-laws 𝓤 H A W .typed (r .outcome) _ (is-answer r _ isr) .0)) $
         returns ! (look ! 41 refl) $ forget ! 41 refl $ forget ! 39 refl $ forget ! 37 refl $ forget ! 35 refl $ forget ! 33 refl $ forget ! 31 refl $ forget ! 29 refl $ forget ! 27 refl $ forget ! 25 refl $ forget ! 23 refl $ forget ! 21 refl $ forget ! 19 refl $ forget ! 17 refl $ forget ! 15 refl $ forget ! 13 refl $ forget ! 11 refl $ forget ! 9 refl $
-        move ! (41 ∷ 42 ∷ []) $
-        free1 ! $
-        move ! (39 ∷ 40 ∷ []) $
-        free1 ! $
-        move ! (37 ∷ 38 ∷ []) $
-        free1 ! $
-        move ! (35 ∷ 36 ∷ []) $
-        free1 ! $
-        move ! (33 ∷ 34 ∷ []) $
-        free1 ! $
-        move ! (31 ∷ 32 ∷ []) $
-        free1 ! $
-        move ! (29 ∷ 30 ∷ []) $
-        free1 ! $
-        move ! (27 ∷ 28 ∷ []) $
-        free1 ! $
-        move ! (25 ∷ 26 ∷ []) $
-        free1 ! $
-        move ! (23 ∷ 24 ∷ []) $
-        free1 ! $
-        move ! (21 ∷ 22 ∷ []) $
-        free1 ! $
-        move ! (19 ∷ 20 ∷ []) $
-        free1 ! $
-        move ! (17 ∷ 18 ∷ []) $
-        free1 ! $
-        move ! (15 ∷ 16 ∷ []) $
-        free1 ! $
-        move ! (13 ∷ 14 ∷ []) $
-        free1 ! $
-        move ! (11 ∷ 12 ∷ []) $
-        free1 ! $
-        move ! (9 ∷ 10 ∷ []) $
-        free1 ! $
-        free0 ! $
+        move ! (41 ∷ 42 ∷ []) $ free1 ! $ move ! (39 ∷ 40 ∷ []) $ free1 ! $ move ! (37 ∷ 38 ∷ []) $ free1 ! $ move ! (35 ∷ 36 ∷ []) $ free1 ! $ move ! (33 ∷ 34 ∷ []) $ free1 ! $ move ! (31 ∷ 32 ∷ []) $ free1 ! $ move ! (29 ∷ 30 ∷ []) $ free1 ! $ move ! (27 ∷ 28 ∷ []) $ free1 ! $ move ! (25 ∷ 26 ∷ []) $ free1 ! $ move ! (23 ∷ 24 ∷ []) $ free1 ! $ move ! (21 ∷ 22 ∷ []) $ free1 ! $ move ! (19 ∷ 20 ∷ []) $ free1 ! $ move ! (17 ∷ 18 ∷ []) $ free1 ! $ move ! (15 ∷ 16 ∷ []) $ free1 ! $ move ! (13 ∷ 14 ∷ []) $ free1 ! $ move ! (11 ∷ 12 ∷ []) $ free1 ! $ move ! (9 ∷ 10 ∷ []) $ free1 ! $ free0 ! $
         keep ! (0 ∷ 1 ∷ 2 ∷ 3 ∷ 4 ∷ 6 ∷ 8 ∷ 5 ∷ 7 ∷ []) $
         by ! (exits r (zs .0) (us .1 .1 .1 .1 .1 .0) lz lu (step-in-place h ys (zs .0) e0 xs1 os (us .1 .1 .1 .1 .1 .0) t r et (forty r _ isr) er ez) (is-answer r _ isr)))))))))))))))))))))))))))))))))))))))
 

@@ -202,35 +202,7 @@ module _ {M : Type 1} (𝓤 : URA M) (H : Heap 𝓤) (A : Atoms 𝓤) (W : Given
           use1 W (‵ (fat fullShare (tyArray T′.mir 40) l₄ 0 (arr (t .nodes)))) (W .laws .raw-at fullShare (tyArray T′.mir 40) l₄ 0 (arr (t .nodes))) $
           assigns ! (of-opd ! (unit-lit !)) (from ! (stop !)) (init ! 29 refl (tt, tt)) $
           returns ! (look ! 29 refl) $ forget ! 29 refl $ forget ! 27 refl $ forget ! 25 refl $ forget ! 23 refl $ forget ! 0 refl $ forget ! 20 refl $ forget ! 18 refl $ forget ! 16 refl $
-          move ! (29 ∷ 30 ∷ []) $
-          free1 ! $
-          move ! (27 ∷ 28 ∷ []) $
-          free1 ! $
-          move ! (25 ∷ 26 ∷ []) $
-          free1 ! $
-          move ! (23 ∷ 24 ∷ []) $
-          free1 ! $
-          move ! (0 ∷ 22 ∷ []) $
-          free1 ! $
-          move ! (19 ∷ 20 ∷ []) $
-          free1 ! $
-          move ! (17 ∷ 18 ∷ []) $
-          free1 ! $
-          move ! (15 ∷ 16 ∷ []) $
-          free1 ! $
-          move ! (13 ∷ 14 ∷ []) $
-          free1 ! $
-          move ! (11 ∷ 12 ∷ []) $
-          free1 ! $
-          move ! (9 ∷ 10 ∷ []) $
-          free1 ! $
-          move ! (7 ∷ 8 ∷ []) $
-          free1 ! $
-          move ! (5 ∷ 6 ∷ []) $
-          free1 ! $
-          move ! (3 ∷ 4 ∷ []) $
-          free1 ! $
-          free0 ! $
+          move ! (29 ∷ 30 ∷ []) $ free1 ! $ move ! (27 ∷ 28 ∷ []) $ free1 ! $ move ! (25 ∷ 26 ∷ []) $ free1 ! $ move ! (23 ∷ 24 ∷ []) $ free1 ! $ move ! (0 ∷ 22 ∷ []) $ free1 ! $ move ! (19 ∷ 20 ∷ []) $ free1 ! $ move ! (17 ∷ 18 ∷ []) $ free1 ! $ move ! (15 ∷ 16 ∷ []) $ free1 ! $ move ! (13 ∷ 14 ∷ []) $ free1 ! $ move ! (11 ∷ 12 ∷ []) $ free1 ! $ move ! (9 ∷ 10 ∷ []) $ free1 ! $ move ! (7 ∷ 8 ∷ []) $ free1 ! $ move ! (5 ∷ 6 ∷ []) $ free1 ! $ move ! (3 ∷ 4 ∷ []) $ free1 ! $ free0 ! $
           keep ! (0 ∷ 1 ∷ 2 ∷ []) $
           by ! (exits (zs (s .i)) (long s) (full s e))))
 
