@@ -22,8 +22,7 @@ struct sums {
 };
 
 /* Remainders are left to the end of a stretch: over 4,096 bytes neither sum leaves 32 bits. */
-static struct sums sums_over(const uint8_t *bytes, size_t count)
-{
+static struct sums sums_over(const uint8_t *bytes, size_t count) {
     uint32_t first = 170, second = 0;
     while (count > 0) {
         size_t stretch = count < 4096 ? count : 4096;
@@ -38,37 +37,28 @@ static struct sums sums_over(const uint8_t *bytes, size_t count)
     return (struct sums){first, second};
 }
 
-bool ct_good(const uint8_t *bytes, size_t count)
-{
+bool ct_good(const uint8_t *bytes, size_t count) {
     struct sums s = sums_over(bytes, count);
     return s.first == 0 && s.second == 0;
 }
 
 /* ---- frame ---- */
 
-ct_refusal ct_read(const uint8_t *bytes, size_t count, struct ct_frame *frame)
-{
-    if (count < CT_OVERHEAD)
-        return NADRELGOS_SHORT;
+ct_refusal ct_read(const uint8_t *bytes, size_t count, struct ct_frame *frame) {
+    if (count < CT_OVERHEAD) return NADRELGOS_SHORT;
     size_t length = bytes[9];
-    if (length > CT_PAYLOAD)
-        return NADRELGOS_OVER_LONG;
-    if (count != CT_OVERHEAD + length)
-        return NADRELGOS_LENGTH_MISMATCH;
-    if (!ct_good(bytes, count))
-        return NADRELGOS_BAD_CHECKSUM;
+    if (length > CT_PAYLOAD) return NADRELGOS_OVER_LONG;
+    if (count != CT_OVERHEAD + length) return NADRELGOS_LENGTH_MISMATCH;
+    if (!ct_good(bytes, count)) return NADRELGOS_BAD_CHECKSUM;
     memcpy(&frame->header, bytes, sizeof frame->header);
     frame->payload = bytes + 10;
     frame->length = length;
     return NADRELGOS_ACCEPTED;
 }
 
-ct_refusal ct_write(const struct ct_header *header, const uint8_t *payload, size_t length, uint8_t *out, size_t room)
-{
-    if (length > CT_PAYLOAD)
-        return NADRELGOS_PAYLOAD_TOO_LONG;
-    if (room < CT_OVERHEAD + length)
-        return NADRELGOS_NO_ROOM;
+ct_refusal ct_write(const struct ct_header *header, const uint8_t *payload, size_t length, uint8_t *out, size_t room) {
+    if (length > CT_PAYLOAD) return NADRELGOS_PAYLOAD_TOO_LONG;
+    if (room < CT_OVERHEAD + length) return NADRELGOS_NO_ROOM;
     memcpy(out, header, sizeof *header);
     out[9] = (uint8_t)length;
     memcpy(out + 10, payload, length);
@@ -81,8 +71,7 @@ ct_refusal ct_write(const struct ct_header *header, const uint8_t *payload, size
 
 /* ---- finder ---- */
 
-struct ct_finding ct_find(const uint8_t *bytes, size_t count, size_t budget)
-{
+struct ct_finding ct_find(const uint8_t *bytes, size_t count, size_t budget) {
     size_t starts = count < CT_OVERHEAD ? 0 : count - (CT_OVERHEAD - 1);
     size_t limit = budget < starts ? budget : starts;
     for (size_t at = 0; at < limit; at++) {
@@ -90,143 +79,109 @@ struct ct_finding ct_find(const uint8_t *bytes, size_t count, size_t budget)
         if (length <= CT_FRAME && length <= count - at && ct_good(bytes + at, length))
             return (struct ct_finding){CT_FOUND, at, length, at + 1};
     }
-    if (budget < starts)
-        return (struct ct_finding){CT_SPENT, 0, 0, budget};
+    if (budget < starts) return (struct ct_finding){CT_SPENT, 0, 0, budget};
     return (struct ct_finding){CT_NOTHING, 0, 0, starts};
 }
 
 /* ---- boards and positions; position p is nodes[p - 1] ---- */
 
-static bool is_listed(const ct_node *nodes, size_t position)
-{
+static bool is_listed(const ct_node *nodes, size_t position) {
     return position >= 1 && position <= NADRELGOS_NODES && nodes[position - 1].kind != 0;
 }
 
-static bool is_mac(uint64_t mac)
-{
+static bool is_mac(uint64_t mac) {
     return mac != 0 && mac < (UINT64_C(1) << 56);
 }
 
-static bool is_kind(uint8_t kind)
-{
+static bool is_kind(uint8_t kind) {
     return kind != 0 && kind != OUR_KIND;
 }
 
-static uint8_t address_of(const ct_coordinator *c, size_t position)
-{
+static uint8_t address_of(const ct_coordinator *c, size_t position) {
     return c->setup.pool[position - 1];
 }
 
-static bool anyone_listed(const ct_node *nodes)
-{
+static bool anyone_listed(const ct_node *nodes) {
     for (size_t i = 0; i < NADRELGOS_NODES; i++)
-        if (nodes[i].kind != 0)
-            return true;
+        if (nodes[i].kind != 0) return true;
     return false;
 }
 
-static size_t lowest_of_kind(const ct_node *nodes, size_t k, uint8_t kind)
-{
-    if (kind == 0)
-        return 0;
+static size_t lowest_of_kind(const ct_node *nodes, size_t k, uint8_t kind) {
+    if (kind == 0) return 0;
     for (size_t i = 0; i < k; i++)
-        if (nodes[i].kind == kind)
-            return i + 1;
+        if (nodes[i].kind == kind) return i + 1;
     return 0;
 }
 
-static size_t lowest_owed(const ct_node *nodes, size_t k)
-{
+static size_t lowest_owed(const ct_node *nodes, size_t k) {
     for (size_t i = 0; i < k; i++)
-        if (nodes[i].kind != 0 && nodes[i].owed)
-            return i + 1;
+        if (nodes[i].kind != 0 && nodes[i].owed) return i + 1;
     return 0;
 }
 
-static uint8_t index_of(const ct_node *nodes, size_t position)
-{
+static uint8_t index_of(const ct_node *nodes, size_t position) {
     uint8_t index = 0, kind = nodes[position - 1].kind;
     for (size_t i = 0; i + 1 < position; i++)
-        if (nodes[i].kind == kind)
-            index++;
+        if (nodes[i].kind == kind) index++;
     return index;
 }
 
-static void owe_all(ct_node *nodes)
-{
+static void owe_all(ct_node *nodes) {
     for (size_t i = 0; i < NADRELGOS_NODES; i++)
-        if (nodes[i].kind != 0)
-            nodes[i].owed = 1;
+        if (nodes[i].kind != 0) nodes[i].owed = 1;
 }
 
 /* ---- fit (01, "Fit") ---- */
 
-static bool pool_fits(const uint8_t *addresses, size_t k)
-{
-    if (k < 1 || k > NADRELGOS_NODES)
-        return false;
-    if (addresses[0] == 0 || addresses[k - 1] == 255)
-        return false;
+static bool pool_fits(const uint8_t *addresses, size_t k) {
+    if (k < 1 || k > NADRELGOS_NODES) return false;
+    if (addresses[0] == 0 || addresses[k - 1] == 255) return false;
     for (size_t i = 1; i < k; i++)
-        if (addresses[i - 1] >= addresses[i])
-            return false;
+        if (addresses[i - 1] >= addresses[i]) return false;
     return true;
 }
 
-static bool record_fits(const ct_node *n, bool may_be_listed)
-{
-    if (n->kind == 0)
-        return n->mac == 0 && n->session == 0 && n->misses == 0 && n->owed == 0;
+static bool record_fits(const ct_node *n, bool may_be_listed) {
+    if (n->kind == 0) return n->mac == 0 && n->session == 0 && n->misses == 0 && n->owed == 0;
     return may_be_listed && n->kind != OUR_KIND && is_mac(n->mac) && n->misses <= 2 && n->owed <= 1;
 }
 
-static bool table_fits(const ct_node *nodes, size_t k)
-{
+static bool table_fits(const ct_node *nodes, size_t k) {
     for (size_t i = 0; i < NADRELGOS_NODES; i++) {
-        if (!record_fits(&nodes[i], i < k))
-            return false;
-        if (nodes[i].kind == 0)
-            continue;
+        if (!record_fits(&nodes[i], i < k)) return false;
+        if (nodes[i].kind == 0) continue;
         for (size_t j = 0; j < i; j++)
-            if (nodes[j].mac == nodes[i].mac)
-                return false;
+            if (nodes[j].mac == nodes[i].mac) return false;
     }
     return true;
 }
 
-static bool keeps_request(const struct nadrelgos_kept *m)
-{
+static bool keeps_request(const struct nadrelgos_kept *m) {
     return m->message >= 1 && m->message <= 127 && m->method >= 1 && m->method <= 3 && m->length <= CT_PAYLOAD;
 }
 
-static bool keeps_response(const struct nadrelgos_kept *m)
-{
+static bool keeps_response(const struct nadrelgos_kept *m) {
     return m->message > RESPONSE && m->length <= CT_PAYLOAD;
 }
 
-static bool stand_fits(const ct_coordinator *c, const ct_node *nodes)
-{
+static bool stand_fits(const ct_coordinator *c, const ct_node *nodes) {
     const struct nadrelgos_stand *s = &c->stand;
     switch (s->stage) {
-    case CT_STAGE_RESTING:
-        return true;
+    case CT_STAGE_RESTING: return true;
     case CT_STAGE_WAIT_OFFER:
     case CT_STAGE_WAIT_LIST:
-    case CT_STAGE_WAIT_RETURN:
-        return is_listed(nodes, s->board);
+    case CT_STAGE_WAIT_RETURN: return is_listed(nodes, s->board);
     case CT_STAGE_WAIT_FORWARD:
     case CT_STAGE_WAIT_FORWARD_ACKED:
     case CT_STAGE_FORWARD_DUE:
         return is_listed(nodes, s->board) && is_listed(nodes, s->requester) && keeps_request(&c->kept);
-    case CT_STAGE_RETURN_DUE:
-        return is_listed(nodes, s->board) && keeps_response(&c->kept);
-    default:
-        return false;
+    case CT_STAGE_RETURN_DUE: return is_listed(nodes, s->board) && keeps_response(&c->kept);
+    default: return false;
     }
 }
 
-static bool is_fit(const ct_coordinator *c, const ct_node *nodes, size_t nodes_count)
-{
+static bool is_fit(const ct_coordinator *c, const ct_node *nodes, size_t nodes_count) {
     return nodes_count == NADRELGOS_NODES && pool_fits(c->setup.pool, c->setup.k) && is_mac(c->setup.mac) &&
            table_fits(nodes, c->setup.k) && stand_fits(c, nodes) &&
            (c->held == 0 || (c->held == 1 && anyone_listed(nodes))) && c->last <= c->setup.k;
@@ -234,38 +189,30 @@ static bool is_fit(const ct_coordinator *c, const ct_node *nodes, size_t nodes_c
 
 /* ---- answers ---- */
 
-static struct ct_answer refuse(ct_refusal number)
-{
+static struct ct_answer refuse(ct_refusal number) {
     return (struct ct_answer){.refusal = (uint8_t)number};
 }
 
-static struct ct_answer does(enum nadrelgos_answer_number what, size_t written)
-{
+static struct ct_answer does(enum nadrelgos_answer_number what, size_t written) {
     return (struct ct_answer){.does = (uint8_t)what, .written = (uint16_t)written};
 }
 
-static struct ct_answer wait_for(size_t board, enum nadrelgos_exchange_number exchange, size_t written)
-{
+static struct ct_answer wait_for(size_t board, enum nadrelgos_exchange_number exchange, size_t written) {
     return (struct ct_answer){
         .does = NADRELGOS_WAIT, .board = (uint8_t)board, .exchange = (uint8_t)exchange, .written = (uint16_t)written};
 }
 
-static void stand(ct_coordinator *c, enum ct_stage stage, size_t board, size_t requester)
-{
+static void stand(ct_coordinator *c, enum ct_stage stage, size_t board, size_t requester) {
     c->stand = (struct nadrelgos_stand){(uint8_t)stage, board, requester};
 }
 
 /* ---- setup and join ---- */
 
 struct ct_answer ct_setup(ct_coordinator *c, ct_node *nodes, size_t nodes_count, const uint8_t *addresses, size_t k,
-                          uint8_t subnet, uint8_t internal, uint64_t mac, uint64_t session)
-{
-    if (nodes_count != NADRELGOS_NODES)
-        return refuse(NADRELGOS_STATE_UNFIT);
-    if (!pool_fits(addresses, k))
-        return refuse(NADRELGOS_BAD_POOL);
-    if (!is_mac(mac))
-        return refuse(NADRELGOS_BAD_MAC);
+                          uint8_t subnet, uint8_t internal, uint64_t mac, uint64_t session) {
+    if (nodes_count != NADRELGOS_NODES) return refuse(NADRELGOS_STATE_UNFIT);
+    if (!pool_fits(addresses, k)) return refuse(NADRELGOS_BAD_POOL);
+    if (!is_mac(mac)) return refuse(NADRELGOS_BAD_MAC);
     memset(nodes, 0, NADRELGOS_NODES * sizeof *nodes);
     memset(c, 0, sizeof *c);
     memcpy(c->setup.pool, addresses, k);
@@ -278,19 +225,13 @@ struct ct_answer ct_setup(ct_coordinator *c, ct_node *nodes, size_t nodes_count,
 }
 
 struct ct_answer ct_join(ct_coordinator *c, ct_node *nodes, size_t nodes_count, uint8_t kind, uint64_t mac,
-                         uint64_t session)
-{
-    if (!is_fit(c, nodes, nodes_count))
-        return refuse(NADRELGOS_STATE_UNFIT);
-    if (!is_kind(kind))
-        return refuse(NADRELGOS_BAD_TYPE);
-    if (!is_mac(mac))
-        return refuse(NADRELGOS_BAD_MAC);
+                         uint64_t session) {
+    if (!is_fit(c, nodes, nodes_count)) return refuse(NADRELGOS_STATE_UNFIT);
+    if (!is_kind(kind)) return refuse(NADRELGOS_BAD_TYPE);
+    if (!is_mac(mac)) return refuse(NADRELGOS_BAD_MAC);
     size_t k = c->setup.k;
-    if (c->stand.stage != CT_STAGE_RESTING || lowest_owed(nodes, k) != 0)
-        return refuse(NADRELGOS_BUSY);
-    if (c->held)
-        return refuse(NADRELGOS_HELD);
+    if (c->stand.stage != CT_STAGE_RESTING || lowest_owed(nodes, k) != 0) return refuse(NADRELGOS_BUSY);
+    if (c->held) return refuse(NADRELGOS_HELD);
     size_t known = 0, open = 0;
     for (size_t i = k; i > 0; i--) {
         if (nodes[i - 1].kind == 0)
@@ -299,8 +240,7 @@ struct ct_answer ct_join(ct_coordinator *c, ct_node *nodes, size_t nodes_count, 
             known = i;
     }
     size_t position = known ? known : open;
-    if (position == 0)
-        return refuse(NADRELGOS_FULL);
+    if (position == 0) return refuse(NADRELGOS_FULL);
     ct_node *n = &nodes[position - 1];
     if (known) {
         n->session = session;
@@ -320,23 +260,18 @@ struct ct_answer ct_join(ct_coordinator *c, ct_node *nodes, size_t nodes_count, 
 
 /* ---- frames of our own ---- */
 
-static void put_word(uint8_t *out, uint64_t word)
-{
-    for (int i = 0; i < 8; i++)
-        out[i] = (uint8_t)(word >> 8 * i);
+static void put_word(uint8_t *out, uint64_t word) {
+    for (int i = 0; i < 8; i++) out[i] = (uint8_t)(word >> 8 * i);
 }
 
-static uint64_t word_at(const uint8_t *bytes)
-{
+static uint64_t word_at(const uint8_t *bytes) {
     uint64_t word = 0;
-    for (int i = 0; i < 8; i++)
-        word |= (uint64_t)bytes[i] << 8 * i;
+    for (int i = 0; i < 8; i++) word |= (uint64_t)bytes[i] << 8 * i;
     return word;
 }
 
 static struct ct_header own_header(const ct_coordinator *c, const ct_node *nodes, size_t board, uint8_t message,
-                                   uint8_t packet)
-{
+                                   uint8_t packet) {
     return (struct ct_header){.destination = address_of(c, board),
                               .source = COORDINATOR,
                               .subnet = c->setup.subnet,
@@ -348,8 +283,7 @@ static struct ct_header own_header(const ct_coordinator *c, const ct_node *nodes
 
 /* The offer and the ACK differ in the code alone. */
 static ct_refusal write_signed(const ct_coordinator *c, const ct_node *nodes, size_t board, uint8_t code, uint8_t *out,
-                               size_t room)
-{
+                               size_t room) {
     uint8_t payload[SIGNED];
     payload[0] = code;
     put_word(payload + 1, c->setup.mac);
@@ -359,20 +293,17 @@ static ct_refusal write_signed(const ct_coordinator *c, const ct_node *nodes, si
 }
 
 /* The node list, up to the highest listed position. */
-static size_t node_list(const ct_coordinator *c, const ct_node *nodes, uint8_t list[NADRELGOS_NODES + 1])
-{
+static size_t node_list(const ct_coordinator *c, const ct_node *nodes, uint8_t list[NADRELGOS_NODES + 1]) {
     size_t length = 1;
     list[0] = c->setup.internal;
     for (size_t i = 0; i < NADRELGOS_NODES; i++) {
         list[i + 1] = nodes[i].kind;
-        if (nodes[i].kind != 0)
-            length = i + 2;
+        if (nodes[i].kind != 0) length = i + 2;
     }
     return length;
 }
 
-static ct_refusal write_kept(const ct_coordinator *c, size_t board, uint8_t parameter2, uint8_t *out, size_t room)
-{
+static ct_refusal write_kept(const ct_coordinator *c, size_t board, uint8_t parameter2, uint8_t *out, size_t room) {
     const struct nadrelgos_kept *m = &c->kept;
     struct ct_header header = {.destination = address_of(c, board),
                                .source = COORDINATOR,
@@ -388,74 +319,60 @@ static ct_refusal write_kept(const ct_coordinator *c, size_t board, uint8_t para
 
 /* ---- turn ---- */
 
-static size_t next_listed(const ct_coordinator *c, const ct_node *nodes)
-{
+static size_t next_listed(const ct_coordinator *c, const ct_node *nodes) {
     size_t k = c->setup.k, position = c->last;
     for (size_t left = k; left > 0; left--) {
         position = position >= k ? 1 : position + 1;
-        if (nodes[position - 1].kind != 0)
-            return position;
+        if (nodes[position - 1].kind != 0) return position;
     }
     return 0;
 }
 
 static struct ct_answer turn_carried(ct_coordinator *c, uint8_t parameter2, enum ct_stage stage,
-                                     enum nadrelgos_exchange_number exchange, uint8_t *out, size_t room)
-{
+                                     enum nadrelgos_exchange_number exchange, uint8_t *out, size_t room) {
     size_t board = c->stand.board;
     ct_refusal refusal = write_kept(c, board, parameter2, out, room);
-    if (refusal)
-        return refuse(refusal);
+    if (refusal) return refuse(refusal);
     stand(c, stage, board, exchange == NADRELGOS_FORWARD ? c->stand.requester : 0);
     return wait_for(board, exchange, CT_OVERHEAD + c->kept.length);
 }
 
-static struct ct_answer turn_list(ct_coordinator *c, ct_node *nodes, size_t board, uint8_t *out, size_t room)
-{
+static struct ct_answer turn_list(ct_coordinator *c, ct_node *nodes, size_t board, uint8_t *out, size_t room) {
     uint8_t list[NADRELGOS_NODES + 1];
     size_t length = node_list(c, nodes, list);
     struct ct_header header = own_header(c, nodes, board, TYPE_LIST, 0);
     ct_refusal refusal = ct_write(&header, list, length, out, room);
-    if (refusal)
-        return refuse(refusal);
+    if (refusal) return refuse(refusal);
     nodes[board - 1].owed = 0;
     stand(c, CT_STAGE_WAIT_LIST, board, 0);
     return wait_for(board, NADRELGOS_LIST, CT_OVERHEAD + length);
 }
 
-static struct ct_answer turn_offer(ct_coordinator *c, const ct_node *nodes, uint8_t *out, size_t room)
-{
+static struct ct_answer turn_offer(ct_coordinator *c, const ct_node *nodes, uint8_t *out, size_t room) {
     size_t board = next_listed(c, nodes);
     ct_refusal refusal = write_signed(c, nodes, board, CODE_OFFER, out, room);
-    if (refusal)
-        return refuse(refusal);
+    if (refusal) return refuse(refusal);
     c->last = board;
     c->held = 0;
     stand(c, CT_STAGE_WAIT_OFFER, board, 0);
     return wait_for(board, NADRELGOS_OFFER, CT_OVERHEAD + SIGNED);
 }
 
-static bool is_waiting(const ct_coordinator *c)
-{
+static bool is_waiting(const ct_coordinator *c) {
     return c->stand.stage >= CT_STAGE_WAIT_OFFER && c->stand.stage <= CT_STAGE_WAIT_RETURN;
 }
 
-struct ct_answer ct_turn(ct_coordinator *c, ct_node *nodes, size_t nodes_count, uint8_t *out, size_t room)
-{
-    if (!is_fit(c, nodes, nodes_count))
-        return refuse(NADRELGOS_STATE_UNFIT);
-    if (is_waiting(c))
-        return refuse(NADRELGOS_AWAITING_REPLY);
-    if (!anyone_listed(nodes))
-        return refuse(NADRELGOS_NOBODY_LISTED);
+struct ct_answer ct_turn(ct_coordinator *c, ct_node *nodes, size_t nodes_count, uint8_t *out, size_t room) {
+    if (!is_fit(c, nodes, nodes_count)) return refuse(NADRELGOS_STATE_UNFIT);
+    if (is_waiting(c)) return refuse(NADRELGOS_AWAITING_REPLY);
+    if (!anyone_listed(nodes)) return refuse(NADRELGOS_NOBODY_LISTED);
     if (c->stand.stage == CT_STAGE_RETURN_DUE)
         return turn_carried(c, 0, CT_STAGE_WAIT_RETURN, NADRELGOS_RETURN, out, room);
     if (c->stand.stage == CT_STAGE_FORWARD_DUE)
         return turn_carried(c, index_of(nodes, c->stand.requester), CT_STAGE_WAIT_FORWARD, NADRELGOS_FORWARD, out,
                             room);
     size_t owed = lowest_owed(nodes, c->setup.k);
-    if (owed)
-        return turn_list(c, nodes, owed, out, room);
+    if (owed) return turn_list(c, nodes, owed, out, room);
     return turn_offer(c, nodes, out, room);
 }
 
@@ -472,31 +389,25 @@ static const uint8_t priorities[6][5] = {
     {ZC, AH, IFC, XOVER},     /* 105 aux heat */
 };
 
-static size_t route(const ct_coordinator *c, const ct_node *nodes, uint8_t method, uint8_t parameter)
-{
+static size_t route(const ct_coordinator *c, const ct_node *nodes, uint8_t method, uint8_t parameter) {
     size_t k = c->setup.k;
     switch (method) {
     case 1:
         if (parameter >= 100 && parameter <= 105)
             for (size_t i = 0; i < 5; i++) {
                 size_t to = lowest_of_kind(nodes, k, priorities[parameter - 100][i]);
-                if (to)
-                    return to;
+                if (to) return to;
             }
         return 0;
-    case 2:
-        return lowest_of_kind(nodes, k, parameter);
-    case 3:
-        return parameter >= 1 && parameter <= k && nodes[parameter - 1].kind != 0 ? parameter : 0;
-    default:
-        return 0;
+    case 2: return lowest_of_kind(nodes, k, parameter);
+    case 3: return parameter >= 1 && parameter <= k && nodes[parameter - 1].kind != 0 ? parameter : 0;
+    default: return 0;
     }
 }
 
 /* ---- frame ---- */
 
-static void keep(struct nadrelgos_kept *m, const struct ct_frame *f)
-{
+static void keep(struct nadrelgos_kept *m, const struct ct_frame *f) {
     m->message = f->header.message;
     m->packet = f->header.packet;
     m->kind = f->header.kind;
@@ -507,13 +418,11 @@ static void keep(struct nadrelgos_kept *m, const struct ct_frame *f)
     memset(m->payload + f->length, 0, CT_PAYLOAD - f->length);
 }
 
-static bool is_ack(const struct ct_frame *f, const ct_node *n)
-{
+static bool is_ack(const struct ct_frame *f, const ct_node *n) {
     return f->length == SIGNED && f->payload[0] == CODE_ACK && word_at(f->payload + 1) == n->mac;
 }
 
-static void hear_ack(ct_node *nodes, ct_node *n, const struct ct_frame *f)
-{
+static void hear_ack(ct_node *nodes, ct_node *n, const struct ct_frame *f) {
     uint64_t session = word_at(f->payload + 9);
     n->misses = 0;
     if (session != n->session) {
@@ -523,36 +432,28 @@ static void hear_ack(ct_node *nodes, ct_node *n, const struct ct_frame *f)
 }
 
 /* Writes the ACK due to the sender; from there on the frame is accepted. */
-static ct_refusal acknowledge(const ct_coordinator *c, ct_node *nodes, size_t board, uint8_t *out, size_t room)
-{
+static ct_refusal acknowledge(const ct_coordinator *c, ct_node *nodes, size_t board, uint8_t *out, size_t room) {
     ct_refusal refusal = write_signed(c, nodes, board, CODE_ACK, out, room);
-    if (!refusal)
-        nodes[board - 1].misses = 0;
+    if (!refusal) nodes[board - 1].misses = 0;
     return refusal;
 }
 
 static struct ct_answer hear_after_offer(ct_coordinator *c, ct_node *nodes, const struct ct_frame *f, uint8_t *out,
-                                         size_t room)
-{
+                                         size_t room) {
     size_t board = c->stand.board;
     uint8_t message = f->header.message, method = f->header.method;
     if (message == TYPE_R2R) {
-        if (!is_ack(f, &nodes[board - 1]))
-            return refuse(NADRELGOS_UNEXPECTED_TYPE);
+        if (!is_ack(f, &nodes[board - 1])) return refuse(NADRELGOS_UNEXPECTED_TYPE);
         hear_ack(nodes, &nodes[board - 1], f);
         stand(c, CT_STAGE_RESTING, 0, 0);
         return does(NADRELGOS_REST, 0);
     }
-    if (message >= RESPONSE)
-        return refuse(NADRELGOS_UNEXPECTED_TYPE);
-    if (method > 3)
-        return refuse(NADRELGOS_BAD_METHOD);
+    if (message >= RESPONSE) return refuse(NADRELGOS_UNEXPECTED_TYPE);
+    if (method > 3) return refuse(NADRELGOS_BAD_METHOD);
     ct_refusal refusal = acknowledge(c, nodes, board, out, room);
-    if (refusal)
-        return refuse(refusal);
+    if (refusal) return refuse(refusal);
     stand(c, CT_STAGE_RESTING, 0, 0);
-    if (method == 0)
-        return does(NADRELGOS_DELIVER, CT_OVERHEAD + SIGNED);
+    if (method == 0) return does(NADRELGOS_DELIVER, CT_OVERHEAD + SIGNED);
     size_t to = route(c, nodes, method, f->header.parameter1);
     if (to != 0 && to != board) {
         keep(&c->kept, f);
@@ -562,24 +463,19 @@ static struct ct_answer hear_after_offer(ct_coordinator *c, ct_node *nodes, cons
 }
 
 static struct ct_answer hear_after_list(ct_coordinator *c, ct_node *nodes, const struct ct_frame *f, uint8_t *out,
-                                        size_t room)
-{
-    if (f->header.message != TYPE_ECHO)
-        return refuse(NADRELGOS_UNEXPECTED_TYPE);
+                                        size_t room) {
+    if (f->header.message != TYPE_ECHO) return refuse(NADRELGOS_UNEXPECTED_TYPE);
     uint8_t list[NADRELGOS_NODES + 1];
     size_t length = node_list(c, nodes, list);
-    if (f->length != length || memcmp(f->payload, list, length) != 0)
-        return refuse(NADRELGOS_BAD_ECHO);
+    if (f->length != length || memcmp(f->payload, list, length) != 0) return refuse(NADRELGOS_BAD_ECHO);
     ct_refusal refusal = acknowledge(c, nodes, c->stand.board, out, room);
-    if (refusal)
-        return refuse(refusal);
+    if (refusal) return refuse(refusal);
     stand(c, CT_STAGE_RESTING, 0, 0);
     return does(NADRELGOS_TRANSMIT, CT_OVERHEAD + SIGNED);
 }
 
 static struct ct_answer hear_after_forward(ct_coordinator *c, ct_node *nodes, const struct ct_frame *f, uint8_t *out,
-                                           size_t room)
-{
+                                           size_t room) {
     size_t board = c->stand.board, requester = c->stand.requester;
     uint8_t message = f->header.message;
     if (message == TYPE_R2R) {
@@ -589,59 +485,43 @@ static struct ct_answer hear_after_forward(ct_coordinator *c, ct_node *nodes, co
         stand(c, CT_STAGE_WAIT_FORWARD_ACKED, board, requester);
         return wait_for(board, NADRELGOS_FORWARD, 0);
     }
-    if (message != c->kept.message + RESPONSE)
-        return refuse(NADRELGOS_UNEXPECTED_TYPE);
+    if (message != c->kept.message + RESPONSE) return refuse(NADRELGOS_UNEXPECTED_TYPE);
     ct_refusal refusal = acknowledge(c, nodes, board, out, room);
-    if (refusal)
-        return refuse(refusal);
+    if (refusal) return refuse(refusal);
     keep(&c->kept, f);
     stand(c, CT_STAGE_RETURN_DUE, requester, 0);
     return does(NADRELGOS_TRANSMIT, CT_OVERHEAD + SIGNED);
 }
 
-static struct ct_answer hear_after_return(ct_coordinator *c, ct_node *nodes, const struct ct_frame *f)
-{
+static struct ct_answer hear_after_return(ct_coordinator *c, ct_node *nodes, const struct ct_frame *f) {
     ct_node *n = &nodes[c->stand.board - 1];
-    if (f->header.message != TYPE_R2R || !is_ack(f, n))
-        return refuse(NADRELGOS_UNEXPECTED_TYPE);
+    if (f->header.message != TYPE_R2R || !is_ack(f, n)) return refuse(NADRELGOS_UNEXPECTED_TYPE);
     hear_ack(nodes, n, f);
     stand(c, CT_STAGE_RESTING, 0, 0);
     return does(NADRELGOS_REST, 0);
 }
 
 struct ct_answer ct_hear(ct_coordinator *c, ct_node *nodes, size_t nodes_count, const uint8_t *bytes, size_t count,
-                         uint8_t *out, size_t room)
-{
-    if (!is_fit(c, nodes, nodes_count))
-        return refuse(NADRELGOS_STATE_UNFIT);
+                         uint8_t *out, size_t room) {
+    if (!is_fit(c, nodes, nodes_count)) return refuse(NADRELGOS_STATE_UNFIT);
     struct ct_frame f;
     ct_refusal refusal = ct_read(bytes, count, &f);
-    if (refusal)
-        return refuse(refusal);
-    if (f.header.destination != COORDINATOR)
-        return refuse(NADRELGOS_NOT_FOR_US);
-    if (!is_waiting(c) || f.header.source != address_of(c, c->stand.board))
-        return refuse(NADRELGOS_NOT_AWAITED);
+    if (refusal) return refuse(refusal);
+    if (f.header.destination != COORDINATOR) return refuse(NADRELGOS_NOT_FOR_US);
+    if (!is_waiting(c) || f.header.source != address_of(c, c->stand.board)) return refuse(NADRELGOS_NOT_AWAITED);
     switch (c->stand.stage) {
-    case CT_STAGE_WAIT_OFFER:
-        return hear_after_offer(c, nodes, &f, out, room);
-    case CT_STAGE_WAIT_LIST:
-        return hear_after_list(c, nodes, &f, out, room);
-    case CT_STAGE_WAIT_RETURN:
-        return hear_after_return(c, nodes, &f);
-    default:
-        return hear_after_forward(c, nodes, &f, out, room);
+    case CT_STAGE_WAIT_OFFER: return hear_after_offer(c, nodes, &f, out, room);
+    case CT_STAGE_WAIT_LIST: return hear_after_list(c, nodes, &f, out, room);
+    case CT_STAGE_WAIT_RETURN: return hear_after_return(c, nodes, &f);
+    default: return hear_after_forward(c, nodes, &f, out, room);
     }
 }
 
 /* ---- quiet ---- */
 
-struct ct_answer ct_quiet(ct_coordinator *c, ct_node *nodes, size_t nodes_count)
-{
-    if (!is_fit(c, nodes, nodes_count))
-        return refuse(NADRELGOS_STATE_UNFIT);
-    if (!is_waiting(c))
-        return refuse(NADRELGOS_NOT_WAITING);
+struct ct_answer ct_quiet(ct_coordinator *c, ct_node *nodes, size_t nodes_count) {
+    if (!is_fit(c, nodes, nodes_count)) return refuse(NADRELGOS_STATE_UNFIT);
+    if (!is_waiting(c)) return refuse(NADRELGOS_NOT_WAITING);
     struct ct_answer answer = does(NADRELGOS_REST, 0);
     if (c->stand.stage != CT_STAGE_WAIT_FORWARD_ACKED) {
         size_t board = c->stand.board;
@@ -651,8 +531,7 @@ struct ct_answer ct_quiet(ct_coordinator *c, ct_node *nodes, size_t nodes_count)
         } else {
             memset(n, 0, sizeof *n);
             owe_all(nodes);
-            if (!anyone_listed(nodes))
-                c->held = 0;
+            if (!anyone_listed(nodes)) c->held = 0;
             answer.dropped = (uint8_t)board;
         }
     }

@@ -2,29 +2,24 @@
 
 #include <string.h>
 
-uint64_t next_random(uint64_t *seed)
-{
+uint64_t next_random(uint64_t *seed) {
     *seed = *seed * UINT64_C(6364136223846793005) + UINT64_C(1442695040888963407);
     return *seed >> 33;
 }
 
-static size_t framed(const struct ct_header *header, const uint8_t *payload, size_t length, uint8_t *out)
-{
+static size_t framed(const struct ct_header *header, const uint8_t *payload, size_t length, uint8_t *out) {
     ct_write(header, payload, length, out, CT_FRAME);
     return CT_OVERHEAD + length;
 }
 
-size_t make_frame(size_t length, uint8_t *out)
-{
+size_t make_frame(size_t length, uint8_t *out) {
     uint8_t payload[CT_PAYLOAD];
-    for (size_t i = 0; i < length; i++)
-        payload[i] = (uint8_t)(7 * i + 1);
+    for (size_t i = 0; i < length; i++) payload[i] = (uint8_t)(7 * i + 1);
     struct ct_header header = {.destination = 255, .source = 17, .subnet = 3, .kind = 2, .message = 2};
     return framed(&header, payload, length, out);
 }
 
-size_t make_ack(const ct_coordinator *c, const ct_node *nodes, size_t position, uint8_t *out)
-{
+size_t make_ack(const ct_coordinator *c, const ct_node *nodes, size_t position, uint8_t *out) {
     const ct_node *n = &nodes[position - 1];
     uint8_t payload[17] = {6};
     for (int i = 0; i < 8; i++) {
@@ -39,33 +34,27 @@ size_t make_ack(const ct_coordinator *c, const ct_node *nodes, size_t position, 
     return framed(&header, payload, sizeof payload, out);
 }
 
-void make_typical(uint8_t capture[CAPTURE])
-{
+void make_typical(uint8_t capture[CAPTURE]) {
     static const size_t lengths[] = {17, 17, 0, 41, 17, 240, 17, 5};
     uint64_t seed = 1;
-    for (size_t i = 0; i < CAPTURE; i++)
-        capture[i] = (uint8_t)next_random(&seed);
+    for (size_t i = 0; i < CAPTURE; i++) capture[i] = (uint8_t)next_random(&seed);
     size_t at = 0;
     for (size_t i = 0;; i++) {
         size_t length = lengths[i % (sizeof lengths / sizeof *lengths)];
         at += next_random(&seed) % 24;
-        if (at + CT_OVERHEAD + length > CAPTURE)
-            return;
+        if (at + CT_OVERHEAD + length > CAPTURE) return;
         at += make_frame(length, capture + at);
     }
 }
 
-void make_worst(uint8_t capture[CAPTURE])
-{
+void make_worst(uint8_t capture[CAPTURE]) {
     memset(capture, CT_PAYLOAD, CAPTURE);
 }
 
-void make_panel(struct panel *p, size_t boards, size_t last)
-{
+void make_panel(struct panel *p, size_t boards, size_t last) {
     uint8_t pool[NADRELGOS_NODES];
     memset(p, 0, sizeof *p);
-    for (size_t i = 0; i < NADRELGOS_NODES; i++)
-        pool[i] = (uint8_t)(16 + i);
+    for (size_t i = 0; i < NADRELGOS_NODES; i++) pool[i] = (uint8_t)(16 + i);
     ct_setup(&p->coordinator, p->table.nodes, NADRELGOS_NODES, pool, NADRELGOS_NODES, 3, 21, 0xA1B2C3D4E5,
              0x1122334455667788);
     for (size_t i = 0; i < boards; i++)

@@ -10,8 +10,7 @@
 
 enum { PANELS = 8 };
 
-static double now(void)
-{
+static double now(void) {
     struct timespec t;
     clock_gettime(CLOCK_MONOTONIC, &t);
     return (double)t.tv_sec * 1e9 + (double)t.tv_nsec;
@@ -30,24 +29,19 @@ struct work {
 
 typedef size_t job(struct work *w, size_t times);
 
-static size_t good_proved(struct work *w, size_t times)
-{
+static size_t good_proved(struct work *w, size_t times) {
     size_t sum = 0;
-    while (times-- > 0)
-        sum += measure_good(w->bytes, w->count);
+    while (times-- > 0) sum += measure_good(w->bytes, w->count);
     return sum;
 }
 
-static size_t good_counterpart(struct work *w, size_t times)
-{
+static size_t good_counterpart(struct work *w, size_t times) {
     size_t sum = 0;
-    while (times-- > 0)
-        sum += ct_good(w->bytes, w->count);
+    while (times-- > 0) sum += ct_good(w->bytes, w->count);
     return sum;
 }
 
-static size_t read_proved(struct work *w, size_t times)
-{
+static size_t read_proved(struct work *w, size_t times) {
     size_t sum = 0;
     while (times-- > 0) {
         struct read_numbers r = measure_read(w->bytes, w->count);
@@ -56,19 +50,16 @@ static size_t read_proved(struct work *w, size_t times)
     return sum;
 }
 
-static size_t read_counterpart(struct work *w, size_t times)
-{
+static size_t read_counterpart(struct work *w, size_t times) {
     size_t sum = 0;
     while (times-- > 0) {
         struct ct_frame f;
-        if (ct_read(w->bytes, w->count, &f) == NADRELGOS_ACCEPTED)
-            sum += f.header.message;
+        if (ct_read(w->bytes, w->count, &f) == NADRELGOS_ACCEPTED) sum += f.header.message;
     }
     return sum;
 }
 
-static size_t write_proved(struct work *w, size_t times)
-{
+static size_t write_proved(struct work *w, size_t times) {
     size_t sum = 0;
     struct ct_header header;
     memcpy(&header, w->bytes, sizeof header);
@@ -77,8 +68,7 @@ static size_t write_proved(struct work *w, size_t times)
     return sum;
 }
 
-static size_t write_counterpart(struct work *w, size_t times)
-{
+static size_t write_counterpart(struct work *w, size_t times) {
     size_t sum = 0;
     struct ct_header header;
     memcpy(&header, w->bytes, sizeof header);
@@ -88,28 +78,24 @@ static size_t write_counterpart(struct work *w, size_t times)
 }
 
 /* Goes on after each frame found, as framelist does. */
-static size_t list_proved(struct work *w, size_t times)
-{
+static size_t list_proved(struct work *w, size_t times) {
     size_t frames = 0;
     while (times-- > 0)
         for (size_t at = 0;;) {
             struct find_numbers f = measure_find(w->bytes + at, w->count - at, w->count);
-            if (f.number != CT_FOUND)
-                break;
+            if (f.number != CT_FOUND) break;
             at += f.start + f.length;
             frames++;
         }
     return frames;
 }
 
-static size_t list_counterpart(struct work *w, size_t times)
-{
+static size_t list_counterpart(struct work *w, size_t times) {
     size_t frames = 0;
     while (times-- > 0)
         for (size_t at = 0;;) {
             struct ct_finding f = ct_find(w->bytes + at, w->count - at, w->count);
-            if (f.found != CT_FOUND)
-                break;
+            if (f.found != CT_FOUND) break;
             at += f.start + f.length;
             frames++;
         }
@@ -117,8 +103,7 @@ static size_t list_counterpart(struct work *w, size_t times)
 }
 
 /* One step on each panel. They are set anew before, outside the time that is taken. */
-static size_t steps_by_value(struct work *w, size_t times)
-{
+static size_t steps_by_value(struct work *w, size_t times) {
     size_t sum = 0;
     for (size_t i = 0; i < times; i++) {
         struct step_numbers r = measure_step(w->panels[i].coordinator, w->panels[i].table, w->event, 0, 0, 0,
@@ -128,8 +113,7 @@ static size_t steps_by_value(struct work *w, size_t times)
     return sum;
 }
 
-static size_t steps_counterpart(struct work *w, size_t times)
-{
+static size_t steps_counterpart(struct work *w, size_t times) {
     size_t sum = 0;
     for (size_t i = 0; i < times; i++)
         sum += nadrelgos_answer(
@@ -137,8 +121,7 @@ static size_t steps_counterpart(struct work *w, size_t times)
     return sum;
 }
 
-static size_t steps_lent(struct work *w, size_t times)
-{
+static size_t steps_lent(struct work *w, size_t times) {
     size_t sum = 0;
     for (size_t i = 0; i < times; i++)
         sum += nadrelgos_answer(nadrelgos_step(&w->panels[i].coordinator, w->panels[i].table.nodes, NADRELGOS_NODES,
@@ -147,8 +130,7 @@ static size_t steps_lent(struct work *w, size_t times)
 }
 
 /* Panels that are about to offer the bus; for an event in a wait, those that have offered it. */
-static void set_panels(struct work *w, size_t boards, uint8_t event)
-{
+static void set_panels(struct work *w, size_t boards, uint8_t event) {
     for (size_t i = 0; i < PANELS; i++) {
         struct panel *p = &w->panels[i];
         make_panel(p, boards, i * 5 % boards);
@@ -166,44 +148,37 @@ static double clock_cost;
 static volatile size_t sink;
 
 /* The best of many rounds, in which the jobs take turns, in nanoseconds a call. */
-static void race(struct work *w, job *const *jobs, size_t job_count, size_t times, size_t rounds, double *best)
-{
+static void race(struct work *w, job *const *jobs, size_t job_count, size_t times, size_t rounds, double *best) {
     static struct panel kept[PANELS];
     memcpy(kept, w->panels, sizeof kept);
-    for (size_t j = 0; j < job_count; j++)
-        best[j] = 1e18;
+    for (size_t j = 0; j < job_count; j++) best[j] = 1e18;
     for (size_t round = 0; round < rounds; round++)
         for (size_t j = 0; j < job_count; j++) {
             memcpy(w->panels, kept, sizeof kept);
             double start = now();
             sink += jobs[j](w, times);
             double spent = (now() - start - clock_cost) / (double)times;
-            if (spent < best[j])
-                best[j] = spent;
+            if (spent < best[j]) best[j] = spent;
         }
 }
 
-static void time_clock(void)
-{
+static void time_clock(void) {
     clock_cost = 1e18;
     for (int i = 0; i < 20000; i++) {
         double start = now(), spent = now() - start;
-        if (spent < clock_cost)
-            clock_cost = spent;
+        if (spent < clock_cost) clock_cost = spent;
     }
 }
 
 /* ---- tables ---- */
 
-static void row(const char *name, struct work *w, job *proved, job *counterpart, size_t times, size_t rounds)
-{
+static void row(const char *name, struct work *w, job *proved, job *counterpart, size_t times, size_t rounds) {
     double best[2];
     race(w, (job *[]){proved, counterpart}, 2, times, rounds, best);
     printf("%-34s %12.1f %12.1f %8.2f\n", name, best[0], best[1], best[0] / best[1]);
 }
 
-static void wire_table(struct work *w)
-{
+static void wire_table(struct work *w) {
     static uint8_t full[CT_FRAME], empty[CT_FRAME], capture[CAPTURE];
     size_t full_count = make_frame(CT_PAYLOAD, full), empty_count = make_frame(0, empty);
     printf("%-34s %12s %12s %8s\n", "ns a call", "proved", "C -O2", "ratio");
@@ -234,8 +209,7 @@ static const uint8_t events[] = {NADRELGOS_EVENT_TURN, NADRELGOS_EVENT_FRAME, NA
 static const char *const event_names[] = {"turn: an offer", "frame: its ACK", "quiet: a miss"};
 static double step_times[3][3][STEPPERS]; /* event, boards, stepper */
 
-static void step_table(struct work *w)
-{
+static void step_table(struct work *w) {
     printf("\n%-28s %9s %9s %9s %11s %7s %14s\n", "ns a step", "by value", "lent", "C -O2", "by value/C", "lent/C",
            "lent/by value");
     for (size_t e = 0; e < 3; e++)
@@ -251,19 +225,16 @@ static void step_table(struct work *w)
 }
 
 /* How a time grows from each size to the next. */
-static void growth_row(const char *name, const double *times, size_t count)
-{
+static void growth_row(const char *name, const double *times, size_t count) {
     printf("%-34s", name);
     for (size_t i = 0; i < count; i++) {
         printf(" %10.0f", times[i]);
-        if (i > 0)
-            printf(" (x%.2f)", times[i] / times[i - 1]);
+        if (i > 0) printf(" (x%.2f)", times[i] / times[i - 1]);
     }
     printf("\n");
 }
 
-static void growth_table(struct work *w)
-{
+static void growth_table(struct work *w) {
     static uint8_t capture[CAPTURE];
     static const size_t sizes[] = {512, 1024, 2048, 4096};
     printf("\n%-34s %10s %10s %18s %17s\n", "growth: ns over bytes", "512", "1,024", "2,048", "4,096");
@@ -286,8 +257,7 @@ static void growth_table(struct work *w)
         for (size_t j = 0; j < STEPPERS; j++) {
             char name[64];
             double times[3];
-            for (size_t b = 0; b < 3; b++)
-                times[b] = step_times[e][b][j];
+            for (size_t b = 0; b < 3; b++) times[b] = step_times[e][b][j];
             snprintf(name, sizeof name, "%s, %s", event_names[e], stepper_names[j]);
             growth_row(name, times, 3);
         }
@@ -295,8 +265,7 @@ static void growth_table(struct work *w)
 
 /* ---- one step over and over ---- */
 
-static int loop(const char *what, const char *event, size_t boards, size_t times)
-{
+static int loop(const char *what, const char *event, size_t boards, size_t times) {
     static struct work w;
     static const char *const names[STEPPERS] = {"by-value", "lent", "counterpart"};
     static const char *const event_words[] = {"turn", "frame", "quiet"};
@@ -314,15 +283,12 @@ static int loop(const char *what, const char *event, size_t boards, size_t times
     return 2;
 }
 
-int main(int argc, char **argv)
-{
+int main(int argc, char **argv) {
     static struct work w;
     if (argc == 6 && strcmp(argv[1], "loop") == 0)
         return loop(argv[2], argv[3], strtoul(argv[4], NULL, 10), strtoul(argv[5], NULL, 10));
-    if (argc != 1)
-        return loop("", "", 0, 0);
-    if (!all_same())
-        return 1;
+    if (argc != 1) return loop("", "", 0, 0);
+    if (!all_same()) return 1;
     printf("The proved code and the counterpart give the same answers, bytes and records on all that is timed.\n\n");
     time_clock();
     wire_table(&w);

@@ -6,39 +6,28 @@
 /* ---- the three panels behind one face ---- */
 
 /* The counterpart's answer has the order of the packed one. */
-static uint64_t packed(struct ct_answer answer)
-{
+static uint64_t packed(struct ct_answer answer) {
     uint64_t number;
     memcpy(&number, &answer, sizeof number);
     return number;
 }
 
 uint64_t step_counterpart(struct panel *p, uint8_t event, uint8_t kind, uint64_t mac, uint64_t session,
-                          const uint8_t *received, size_t count, uint8_t *out, size_t room)
-{
+                          const uint8_t *received, size_t count, uint8_t *out, size_t room) {
     ct_coordinator *c = &p->coordinator;
     ct_node *nodes = p->table.nodes;
     struct ct_answer answer;
     switch (event) {
-    case NADRELGOS_EVENT_TURN:
-        answer = ct_turn(c, nodes, NADRELGOS_NODES, out, room);
-        break;
-    case NADRELGOS_EVENT_FRAME:
-        answer = ct_hear(c, nodes, NADRELGOS_NODES, received, count, out, room);
-        break;
-    case NADRELGOS_EVENT_QUIET:
-        answer = ct_quiet(c, nodes, NADRELGOS_NODES);
-        break;
-    default:
-        answer = ct_join(c, nodes, NADRELGOS_NODES, kind, mac, session);
-        break;
+    case NADRELGOS_EVENT_TURN: answer = ct_turn(c, nodes, NADRELGOS_NODES, out, room); break;
+    case NADRELGOS_EVENT_FRAME: answer = ct_hear(c, nodes, NADRELGOS_NODES, received, count, out, room); break;
+    case NADRELGOS_EVENT_QUIET: answer = ct_quiet(c, nodes, NADRELGOS_NODES); break;
+    default: answer = ct_join(c, nodes, NADRELGOS_NODES, kind, mac, session); break;
     }
     return packed(answer);
 }
 
 uint64_t step_by_value(struct panel *p, uint8_t event, uint8_t kind, uint64_t mac, uint64_t session,
-                       const uint8_t *received, size_t count, uint8_t *out, size_t room)
-{
+                       const uint8_t *received, size_t count, uint8_t *out, size_t room) {
     struct step_numbers r =
         measure_step(p->coordinator, p->table, event, kind, mac, session, received, count, out, room);
     p->coordinator = r.coordinator;
@@ -47,39 +36,33 @@ uint64_t step_by_value(struct panel *p, uint8_t event, uint8_t kind, uint64_t ma
 }
 
 uint64_t step_lent(struct panel *p, uint8_t event, uint8_t kind, uint64_t mac, uint64_t session,
-                   const uint8_t *received, size_t count, uint8_t *out, size_t room)
-{
+                   const uint8_t *received, size_t count, uint8_t *out, size_t room) {
     return nadrelgos_step(&p->coordinator, p->table.nodes, NADRELGOS_NODES, event, kind, mac, session, received, count,
                           out, room);
 }
 
 /* ---- field by field: padding has no meaning ---- */
 
-static bool same_node(const ct_node *a, const ct_node *b)
-{
+static bool same_node(const ct_node *a, const ct_node *b) {
     return a->kind == b->kind && a->mac == b->mac && a->session == b->session && a->misses == b->misses &&
            a->owed == b->owed;
 }
 
-static bool same_setup(const struct nadrelgos_settings *a, const struct nadrelgos_settings *b)
-{
+static bool same_setup(const struct nadrelgos_settings *a, const struct nadrelgos_settings *b) {
     return memcmp(a->pool, b->pool, sizeof a->pool) == 0 && a->k == b->k && a->subnet == b->subnet &&
            a->internal == b->internal && a->mac == b->mac && a->session == b->session;
 }
 
-static bool same_kept(const struct nadrelgos_kept *a, const struct nadrelgos_kept *b)
-{
+static bool same_kept(const struct nadrelgos_kept *a, const struct nadrelgos_kept *b) {
     return a->message == b->message && a->packet == b->packet && a->kind == b->kind && a->method == b->method &&
            a->parameter == b->parameter && a->length == b->length &&
            memcmp(a->payload, b->payload, sizeof a->payload) == 0;
 }
 
-static bool same_panel(const struct panel *a, const struct panel *b)
-{
+static bool same_panel(const struct panel *a, const struct panel *b) {
     const ct_coordinator *c = &a->coordinator, *d = &b->coordinator;
     for (size_t i = 0; i < NADRELGOS_NODES; i++)
-        if (!same_node(&a->table.nodes[i], &b->table.nodes[i]))
-            return false;
+        if (!same_node(&a->table.nodes[i], &b->table.nodes[i])) return false;
     return same_setup(&c->setup, &d->setup) && c->last == d->last && c->held == d->held &&
            c->stand.stage == d->stand.stage && c->stand.board == d->stand.board &&
            c->stand.requester == d->stand.requester && same_kept(&c->kept, &d->kept);
@@ -87,8 +70,7 @@ static bool same_panel(const struct panel *a, const struct panel *b)
 
 /* ---- frames ---- */
 
-static bool same_reading(const uint8_t *bytes, size_t count)
-{
+static bool same_reading(const uint8_t *bytes, size_t count) {
     struct read_numbers r = measure_read(bytes, count);
     struct ct_frame f = {.length = 0};
     ct_refusal refusal = ct_read(bytes, count, &f);
@@ -96,8 +78,7 @@ static bool same_reading(const uint8_t *bytes, size_t count)
            measure_good(bytes, count) == ct_good(bytes, count);
 }
 
-static bool same_writing(const uint8_t *bytes, size_t length, size_t room)
-{
+static bool same_writing(const uint8_t *bytes, size_t length, size_t room) {
     uint8_t a[CT_FRAME + 8], b[CT_FRAME + 8];
     memset(a, 0xEE, sizeof a);
     memset(b, 0xEE, sizeof b);
@@ -108,15 +89,13 @@ static bool same_writing(const uint8_t *bytes, size_t length, size_t room)
     return w.refusal == refusal && w.written == (refusal ? 0 : CT_OVERHEAD + length) && memcmp(a, b, sizeof a) == 0;
 }
 
-static bool same_finding(const uint8_t *bytes, size_t count, size_t budget)
-{
+static bool same_finding(const uint8_t *bytes, size_t count, size_t budget) {
     struct find_numbers a = measure_find(bytes, count, budget);
     struct ct_finding b = ct_find(bytes, count, budget);
     return a.number == b.found && a.start == b.start && a.length == b.length && a.tried == b.tried;
 }
 
-static bool same_wire(void)
-{
+static bool same_wire(void) {
     uint8_t frame[2 * CT_FRAME], capture[CAPTURE];
     uint64_t seed = 2;
     for (size_t length = 0; length <= CT_PAYLOAD; length++) {
@@ -125,13 +104,11 @@ static bool same_wire(void)
             !same_writing(frame, length, count - 1))
             return false;
         frame[next_random(&seed) % count] ^= 1;
-        if (!same_reading(frame, count) || !same_reading(frame, count - 1))
-            return false;
+        if (!same_reading(frame, count) || !same_reading(frame, count - 1)) return false;
     }
     make_typical(capture);
     for (size_t at = 0; at < CAPTURE; at++)
-        if (!same_finding(capture + at, CAPTURE - at, CAPTURE) || !same_finding(capture, at, at / 2))
-            return false;
+        if (!same_finding(capture + at, CAPTURE - at, CAPTURE) || !same_finding(capture, at, at / 2)) return false;
     make_worst(capture);
     return same_finding(capture, CAPTURE, CAPTURE) && ct_find(capture, CAPTURE, CAPTURE).found == CT_NOTHING;
 }
@@ -140,8 +117,7 @@ static bool same_wire(void)
 
 /* The same step on both; what they leave must be the same. */
 static bool same_step(struct panel *ours, struct panel *theirs, step_function *step, uint8_t event, uint8_t kind,
-                      uint64_t mac, uint64_t session, const uint8_t *received, size_t count, size_t room)
-{
+                      uint64_t mac, uint64_t session, const uint8_t *received, size_t count, size_t room) {
     uint8_t a[CT_FRAME + 8], b[CT_FRAME + 8];
     memset(a, 0xEE, sizeof a);
     memset(b, 0xEE, sizeof b);
@@ -151,18 +127,14 @@ static bool same_step(struct panel *ours, struct panel *theirs, step_function *s
 }
 
 /* A frame that the wait may take, or nearly. */
-static size_t random_frame(const struct panel *p, uint64_t *seed, uint8_t *out)
-{
+static size_t random_frame(const struct panel *p, uint64_t *seed, uint8_t *out) {
     const ct_coordinator *c = &p->coordinator;
     const ct_node *nodes = p->table.nodes;
     size_t board = c->stand.board;
-    if (board < 1 || board > NADRELGOS_NODES)
-        return make_frame(next_random(seed) % (CT_PAYLOAD + 1), out);
+    if (board < 1 || board > NADRELGOS_NODES) return make_frame(next_random(seed) % (CT_PAYLOAD + 1), out);
     ct_node n = nodes[board - 1];
-    if (next_random(seed) % 16 == 0)
-        n.mac++;
-    if (next_random(seed) % 16 == 0)
-        n.session++;
+    if (next_random(seed) % 16 == 0) n.mac++;
+    if (next_random(seed) % 16 == 0) n.session++;
     ct_node one[NADRELGOS_NODES];
     memcpy(one, nodes, sizeof one);
     one[board - 1] = n;
@@ -187,29 +159,23 @@ static size_t random_frame(const struct panel *p, uint64_t *seed, uint8_t *out)
             length = 1;
             for (size_t i = 0; i < NADRELGOS_NODES; i++) {
                 payload[1 + i] = nodes[i].kind;
-                if (nodes[i].kind)
-                    length = i + 2;
+                if (nodes[i].kind) length = i + 2;
             }
-            if (next_random(seed) % 8 == 0)
-                payload[length - 1]++;
+            if (next_random(seed) % 8 == 0) payload[length - 1]++;
         } else if (c->stand.stage == CT_STAGE_WAIT_FORWARD || c->stand.stage == CT_STAGE_WAIT_FORWARD_ACKED) {
             header.message = (uint8_t)(c->kept.message + 128);
         }
-        if (next_random(seed) % 16 == 0)
-            header.source++;
-        if (next_random(seed) % 16 == 0)
-            header.destination = 0;
+        if (next_random(seed) % 16 == 0) header.source++;
+        if (next_random(seed) % 16 == 0) header.destination = 0;
         ct_write(&header, payload, length, out, CT_FRAME);
         count = CT_OVERHEAD + length;
     }
-    if (next_random(seed) % 16 == 0)
-        out[next_random(seed) % count] ^= 0x10;
+    if (next_random(seed) % 16 == 0) out[next_random(seed) % count] ^= 0x10;
     return count - (next_random(seed) % 32 == 0);
 }
 
 /* One byte of what is lent is changed for one step. */
-static void spoil(struct panel *p, uint64_t *seed)
-{
+static void spoil(struct panel *p, uint64_t *seed) {
     if (next_random(seed) % 2)
         ((uint8_t *)&p->coordinator)[next_random(seed) % sizeof p->coordinator] ^=
             (uint8_t)(1 << next_random(seed) % 8);
@@ -217,8 +183,7 @@ static void spoil(struct panel *p, uint64_t *seed)
         ((uint8_t *)&p->table)[next_random(seed) % sizeof p->table] ^= (uint8_t)(1 << next_random(seed) % 8);
 }
 
-static bool same_play(step_function *step, size_t boards, size_t steps)
-{
+static bool same_play(step_function *step, size_t boards, size_t steps) {
     struct panel ours, theirs;
     uint64_t seed = boards;
     make_panel(&theirs, boards, 0);
@@ -247,8 +212,7 @@ static bool same_play(step_function *step, size_t boards, size_t steps)
 }
 
 /* The steps that are timed: an offer, its ACK, and a quiet in its place. */
-static bool same_round(step_function *step, size_t boards)
-{
+static bool same_round(step_function *step, size_t boards) {
     for (size_t last = 0; last < boards; last++) {
         uint8_t ack[CT_FRAME];
         struct panel ours, theirs, waiting;
@@ -273,8 +237,7 @@ static bool same_round(step_function *step, size_t boards)
 static const uint8_t nothing[1];
 
 /* What a play does not come to by chance: nobody listed, a full table, a board that leaves while joins are held. */
-static bool same_corners(step_function *step)
-{
+static bool same_corners(step_function *step) {
     struct panel ours, theirs;
     make_panel(&theirs, NADRELGOS_NODES, 0);
     ours = theirs;
@@ -295,8 +258,7 @@ static bool same_corners(step_function *step)
     return theirs.table.nodes[0].kind == 0 && theirs.coordinator.held == 0;
 }
 
-static bool same_setup_of(const uint8_t *pool, size_t k, size_t nodes_count, uint64_t mac)
-{
+static bool same_setup_of(const uint8_t *pool, size_t k, size_t nodes_count, uint64_t mac) {
     struct panel ours, theirs;
     make_panel(&theirs, 8, 3);
     ours = theirs;
@@ -305,11 +267,9 @@ static bool same_setup_of(const uint8_t *pool, size_t k, size_t nodes_count, uin
            same_panel(&ours, &theirs);
 }
 
-static bool same_setups(void)
-{
+static bool same_setups(void) {
     uint8_t pool[NADRELGOS_NODES + 1];
-    for (size_t i = 0; i <= NADRELGOS_NODES; i++)
-        pool[i] = (uint8_t)(3 * i + 1);
+    for (size_t i = 0; i <= NADRELGOS_NODES; i++) pool[i] = (uint8_t)(3 * i + 1);
     bool same = true;
     for (size_t k = 0; k <= NADRELGOS_NODES + 1; k++)
         same = same && same_setup_of(pool, k, NADRELGOS_NODES, 1) && same_setup_of(pool, k, NADRELGOS_NODES, 0) &&
@@ -322,24 +282,19 @@ static bool same_setups(void)
     return same && same_setup_of(pool, 1, NADRELGOS_NODES, 1);
 }
 
-static bool said(const char *what, bool same)
-{
-    if (!same)
-        printf("bench: %s: the proved code and the counterpart DIFFER\n", what);
+static bool said(const char *what, bool same) {
+    if (!same) printf("bench: %s: the proved code and the counterpart DIFFER\n", what);
     return same;
 }
 
-static bool same_steps(const char *what, step_function *step)
-{
+static bool same_steps(const char *what, step_function *step) {
     static const size_t boards[] = {1, 8, 40};
     for (size_t i = 0; i < 3; i++)
-        if (!said(what, same_round(step, boards[i]) && same_play(step, boards[i], 20000)))
-            return false;
+        if (!said(what, same_round(step, boards[i]) && same_play(step, boards[i], 20000))) return false;
     return said(what, same_corners(step));
 }
 
-bool all_same(void)
-{
+bool all_same(void) {
     return said("checksum, read, write, find", same_wire()) && same_steps("step by value", step_by_value) &&
            same_steps("lent step", step_lent) && said("setup", same_setups());
 }
