@@ -2,11 +2,11 @@
  * Nadrelgos: the coordinator of a ClimateTalk CT-485 bus, for firmware in C (C11) or C++ (C++11).
  *
  * The archive libpanel.a, which `rt staticlib panel` proves and writes, has nadrelgos_setup, nadrelgos_step and, for
- * tools, nadrelgos_amend. They are written in Rattle and proved to do what the definitions under crates/ say, for every
- * input; docs/PROMISES.md leads from each rule to its definition, its theorem and its code. This header is not proved:
- * it restates those definitions for whoever writes the firmware. The archive is for x86-64; the assertions at the end
- * stop a build whose records would be laid out otherwise. Of C's library it needs memcpy; a call takes up to some 24
- * kilobytes of stack, which `hosts/c/run stack` measures.
+ * tools, nadrelgos_list, _clear and _mark. They are written in Rattle and proved to do what the definitions under
+ * crates/ say, for every input; docs/PROMISES.md leads from each rule to its definition, its theorem and its code. This
+ * header is not proved: it restates those definitions for whoever writes the firmware. The archive is for x86-64; the
+ * assertions at the end stop a build whose records would be laid out otherwise. Of C's library it needs memcpy; a call
+ * takes up to some 24 kilobytes of stack, which `hosts/c/run stack` measures.
  *
  * WHO OWNS WHAT
  *   The host owns all memory: one coordinator record, forty node records, and the buffers. Nothing is allocated and
@@ -232,38 +232,28 @@ uint64_t nadrelgos_step(struct nadrelgos_coordinator *coordinator, struct nadrel
                         size_t received_count, uint8_t *out, size_t out_count);
 
 /*
- * Changes one node record, for tools and tests. A firmware has no need of it: boards are listed by joins and cleared by
- * quiets, and what is promised of the list is promised of records that only setup and the steps have written.
+ * One node record listed, cleared or marked, for tools and tests. A firmware has no need of them: boards are listed by
+ * joins and cleared by quiets, and what is promised of the list is promised of records that only setup and the steps
+ * have written.
  *
  *   nodes, nodes_count     the node records and their count, 40
- *   change                 one of enum nadrelgos_change_number. Any other changes nothing
  *   position               1 to 40. Any other names nobody, and nothing is changed
- *   kind, mac, session     looked at in NADRELGOS_CHANGE_LIST only
  *
  * Whether the records are fit afterwards is not tested here: the next step tests it, and refuses 22 where they are not,
  * as with a MAC that is listed twice or a board cleared that a wait names.
  *
- * Answers NADRELGOS_REST and all else 0, or refuses 22 where nodes_count is not 40.
+ * Each answers NADRELGOS_REST and all else 0, or refuses 22 where nodes_count is not 40.
  */
-enum nadrelgos_change_number {
-    NADRELGOS_CHANGE_LIST = 1,  /* a new board's record there, whatever stood there: no misses, no list owed */
-    NADRELGOS_CHANGE_CLEAR = 2, /* the position freed: all zeros */
-    NADRELGOS_CHANGE_MARK = 3   /* the node list owed to the board there; a free position stays as it is */
-};
-uint64_t nadrelgos_amend(struct nadrelgos_node *nodes, size_t nodes_count, uint8_t change, size_t position,
-                         uint8_t kind, uint64_t mac, uint64_t session);
 
-/* The same, each change by its name. `nodes` are NADRELGOS_NODES records. */
-static inline uint64_t nadrelgos_list(struct nadrelgos_node *nodes, size_t position, uint8_t kind, uint64_t mac,
-                                      uint64_t session) {
-    return nadrelgos_amend(nodes, NADRELGOS_NODES, NADRELGOS_CHANGE_LIST, position, kind, mac, session);
-}
-static inline uint64_t nadrelgos_clear(struct nadrelgos_node *nodes, size_t position) {
-    return nadrelgos_amend(nodes, NADRELGOS_NODES, NADRELGOS_CHANGE_CLEAR, position, 0, 0, 0);
-}
-static inline uint64_t nadrelgos_mark(struct nadrelgos_node *nodes, size_t position) {
-    return nadrelgos_amend(nodes, NADRELGOS_NODES, NADRELGOS_CHANGE_MARK, position, 0, 0, 0);
-}
+/* A new board's record at the position, whatever stood there: no misses, no list owed. */
+uint64_t nadrelgos_list(struct nadrelgos_node *nodes, size_t nodes_count, size_t position, uint8_t kind, uint64_t mac,
+                        uint64_t session);
+
+/* The position freed: all zeros. */
+uint64_t nadrelgos_clear(struct nadrelgos_node *nodes, size_t nodes_count, size_t position);
+
+/* The node list owed to the board at the position; a free position stays as it is. */
+uint64_t nadrelgos_mark(struct nadrelgos_node *nodes, size_t nodes_count, size_t position);
 
 /*
  * The parts of an answer, low byte first: the refusal's number, the answer, the board awaited, its exchange, the

@@ -29,7 +29,7 @@ static size_t received_count;
 static _Alignas(64) uint8_t stack[STACK];
 
 /* what is called: a step by its event's number, or one of these */
-enum { SETUP = 0, AMEND = 5, CALLS = 6, NOTHING = 255 };
+enum { SETUP = 0, MARK = 5, CALLS = 6, NOTHING = 255 };
 
 struct call {
     uint8_t event;
@@ -44,8 +44,8 @@ static void make(struct call *call) {
     case SETUP:
         call->answer = nadrelgos_setup(&coordinator, nodes, NADRELGOS_NODES, pool, sizeof pool, SUBNET, 21, 9, 1);
         break;
-    case AMEND:
-        call->answer = nadrelgos_amend(nodes, NADRELGOS_NODES, NADRELGOS_CHANGE_MARK, NADRELGOS_NODES, 0, 0, 0);
+    case MARK:
+        call->answer = nadrelgos_mark(nodes, NADRELGOS_NODES, NADRELGOS_NODES);
         break;
     default:
         call->answer = nadrelgos_step(&coordinator, nodes, NADRELGOS_NODES, call->event, call->kind, call->mac, 1,
@@ -182,16 +182,16 @@ int main(void) {
         measure(NADRELGOS_EVENT_QUIET, 0, 0);
     }
     if (nodes[0].kind != 0) astray = true;
-    measure(AMEND, 0, 0);
+    measure(MARK, 0, 0);
     if (astray) {
         printf("stack: the panel did not do what this program means to measure\n");
         return 1;
     }
 
     printf("stack of one call, in bytes, over %u calls on a full table (%u refused):\n", calls, refused);
-    printf("  setup %u, join %u, turn %u, frame %u, quiet %u, amend %u\n", (unsigned)deepest[SETUP],
+    printf("  setup %u, join %u, turn %u, frame %u, quiet %u, mark %u\n", (unsigned)deepest[SETUP],
            (unsigned)deepest[NADRELGOS_EVENT_JOIN], (unsigned)deepest[NADRELGOS_EVENT_TURN],
            (unsigned)deepest[NADRELGOS_EVENT_FRAME], (unsigned)deepest[NADRELGOS_EVENT_QUIET],
-           (unsigned)deepest[AMEND]);
+           (unsigned)deepest[MARK]);
     return 0;
 }

@@ -22,7 +22,7 @@ struct lent {
 static struct lent lent, before;
 static uint8_t received[NADRELGOS_ROOM];
 
-/* the answer of a setup or an amendment that is taken */
+/* the answer of a setup or a change that is taken */
 static const uint64_t rest = (uint64_t)NADRELGOS_REST << 8;
 
 /* ---- the checks and their lines */
@@ -66,6 +66,19 @@ static uint64_t draw(void) {
 static void scatter(void *bytes, size_t count) {
     uint8_t *at = bytes;
     for (size_t i = 0; i < count; i++) at[i] = (uint8_t)(draw() >> 32);
+}
+
+/* ---- a change of one record, by its name */
+
+enum change { LIST, CLEAR, MARK };
+enum { AMENDED = 240 }; /* rounds of changes, as many of each */
+
+static uint64_t amend(enum change change, size_t count, size_t position, uint8_t kind, uint64_t mac, uint64_t session) {
+    switch (change) {
+    case LIST: return nadrelgos_list(lent.nodes, count, position, kind, mac, session);
+    case CLEAR: return nadrelgos_clear(lent.nodes, count, position);
+    default: return nadrelgos_mark(lent.nodes, count, position);
+    }
 }
 
 /* ---- what a call changed */
@@ -261,14 +274,14 @@ static void hold_count_refused(size_t count) {
     hold_refused(set_up(count), NADRELGOS_STATE_UNFIT, count);
     for (uint8_t event = 0; event <= NADRELGOS_EVENT_QUIET + 1; event++)
         hold_step_refused(event, NADRELGOS_STATE_UNFIT, count);
-    for (uint8_t change = 0; change <= NADRELGOS_CHANGE_MARK + 1; change++) {
+    for (enum change change = LIST; change <= MARK; change++) {
         keep();
-        hold_refused(nadrelgos_amend(lent.nodes, count, change, 1, 5, 7, 1), NADRELGOS_STATE_UNFIT, count);
+        hold_refused(amend(change, count, 1, 5, 7, 1), NADRELGOS_STATE_UNFIT, count);
     }
 }
 
 static void refuses_other_counts(void) {
-    begin("setup, steps and amend with other counts than 40");
+    begin("setup, steps and changes with other counts than 40");
     for (size_t count = 0; count <= 2 * NADRELGOS_NODES; count++)
         if (count != NADRELGOS_NODES) hold_count_refused(count);
     hold_count_refused(NADRELGOS_NODES + 256); /* forty, if it were held in a byte */
@@ -334,18 +347,17 @@ static void refuses_setup_over_garbage(void) {
     end();
 }
 
-/* ---- amend, as crates/lent/specs/Amend.antt defines it */
+/* ---- single records listed, cleared and marked, as crates/lent/specs/Amend.antt defines it */
 
 /* The record at the position of a change. */
-static struct nadrelgos_node amended(struct nadrelgos_node node, uint8_t change, uint8_t kind, uint64_t mac,
+static struct nadrelgos_node amended(struct nadrelgos_node node, enum change change, uint8_t kind, uint64_t mac,
                                      uint64_t session) {
     switch (change) {
-    case NADRELGOS_CHANGE_LIST: return (struct nadrelgos_node){kind, mac, session, 0, 0};
-    case NADRELGOS_CHANGE_CLEAR: return (struct nadrelgos_node){0, 0, 0, 0, 0};
-    case NADRELGOS_CHANGE_MARK:
+    case LIST: return (struct nadrelgos_node){kind, mac, session, 0, 0};
+    case CLEAR: return (struct nadrelgos_node){0, 0, 0, 0, 0};
+    default:
         if (node.kind != 0) node.owed = 1;
         return node;
-    default: return node;
     }
 }
 
@@ -356,7 +368,7 @@ static void scatter_table(void) {
         if (draw() >> 63) lent.nodes[i].kind = 0;
 }
 
-static void hold_amended(uint8_t change, size_t position) {
+static void hold_amended(enum change change, size_t position) {
     static struct nadrelgos_node expected[NADRELGOS_NODES];
     uint8_t kind = (uint8_t)(draw() >> 32);
     uint64_t mac = draw(), session = draw();
@@ -364,16 +376,16 @@ static void hold_amended(uint8_t change, size_t position) {
     memcpy(expected, lent.nodes, sizeof expected);
     if (1 <= position && position <= NADRELGOS_NODES)
         expected[position - 1] = amended(expected[position - 1], change, kind, mac, session);
-    uint64_t answer = nadrelgos_amend(lent.nodes, NADRELGOS_NODES, change, position, kind, mac, session);
+    uint64_t answer = amend(change, NADRELGOS_NODES, position, kind, mac, session);
     hold(answer == rest && same_nodes(lent.nodes, expected, NADRELGOS_NODES) && others_untouched(NADRELGOS_NODES),
          answer);
 }
 
 static void amends_as_defined(void) {
-    begin("amend, every change at every position");
-    for (unsigned change = 0; change <= UINT8_MAX; change++) {
+    begin("list, clear and mark at every position");
+    for (unsigned round = 0; round < AMENDED; round++) {
         scatter_table();
-        for (size_t position = 1; position <= NADRELGOS_NODES; position++) hold_amended((uint8_t)change, position);
+        for (size_t position = 1; position <= NADRELGOS_NODES; position++) hold_amended(round % 3, position);
     }
     end();
 }
@@ -382,10 +394,10 @@ static void amends_nobody(void) {
     static const size_t positions[] = {
         0, 41, 42, 255, 256, 256 + 1, 65536 + 1, ((size_t)1 << 32) + 1, SIZE_MAX / 2 + 2, SIZE_MAX - 1, SIZE_MAX,
     };
-    begin("amend at positions 0, 41 and up to the highest number");
-    for (unsigned change = 0; change <= UINT8_MAX; change++) {
+    begin("list, clear and mark at positions 0, 41 and up to the highest number");
+    for (unsigned round = 0; round < AMENDED; round++) {
         scatter_table();
-        for (size_t i = 0; i < sizeof positions / sizeof *positions; i++) hold_amended((uint8_t)change, positions[i]);
+        for (size_t i = 0; i < sizeof positions / sizeof *positions; i++) hold_amended(round % 3, positions[i]);
     }
     end();
 }

@@ -17,6 +17,17 @@ STEP = {
     'said': '(inPlace {y} {k} {zs} ≡ shows ({does})) × ({us} ≡ laid ({does} .bytes) os)',
 }
 
+
+
+def amend(change, parameters, changed):
+    """one record changed in place, by the definition of the change with a hole for the records"""
+    return InPlace(
+        f'nadrelgos_{change}', calls=f'counted_{change}', result='Amended', answer=('answer', 'u64'), coordinator=False, out=False, parameters=parameters,
+        gives=f'amends (r .answer) (r .table .nodes) ≡ amendOf (length ys) (t .nodes) ({changed.format("(t .nodes)")})',
+        said=f'amends {{y}} {{zs}} ≡ amendOf (length ys) ys ({changed.format("ys")})',
+        law=f'amend-in-place (λ (l : List Node). {changed.format("l")}) ys {{zs}} t r et {{forty}} er ez')
+
+
 WALKS = [
     InPlace(
         'setup', calls='counted_setup', result='Stepped', answer=('outcome', 'Outcome'), **SETUP,
@@ -28,12 +39,9 @@ WALKS = [
         counted='countedStep h (t .nodes) (length ys) e0 xs1 (length os)',
         gives='(shown r ≡ shows ({counted})) × ({us} ≡ laid ({counted} .bytes) os)',
         law='step-in-place h ys {zs} e0 xs1 os {us} t r et {forty} er ez'),
-    InPlace(
-        'nadrelgos_amend', calls='counted_amend', result='Amended', answer=('answer', 'u64'), coordinator=False, out=False,
-        parameters=['u8', 'usize', 'u8', 'u64', 'u64'],
-        gives='amends (r .answer) (r .table .nodes) ≡ amendOf (length ys) (t .nodes) e0 e1 e2 e3 e4',
-        said='amends {y} {zs} ≡ amendOf (length ys) ys e0 e1 e2 e3 e4',
-        law='amend-in-place ys {zs} e0 e1 e2 e3 e4 t r et {forty} er ez'),
+    amend('list', ['usize', 'u8', 'u64', 'u64'], 'listing {} e0 e1 e2 e3'),
+    amend('clear', ['usize'], 'clearing {} e0'),
+    amend('mark', ['usize'], 'marking {} e0'),
     OnCopies('lend_setup', calls='setup', **SETUP),
     OnCopies('lend_step', calls='step', **STEP),
     ForC(

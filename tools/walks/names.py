@@ -4,7 +4,7 @@ import re
 OWN = 'panel'
 # the crate of each type and of each function that a walk names; what is not here is the panel's own
 TYPE = {'Node': 'board', 'Table': 'board', 'Coordinator': 'coordinator', 'Event': 'steps', 'Outcome': 'steps', 'Stepped': 'steps', 'Amended': 'lent'}
-FUNCTION = {'counted_step': 'lent', 'counted_setup': 'lent', 'counted_amend': 'lent', 'event_of': 'lent', 'pack': 'lent'}
+FUNCTION = {'counted_step': 'lent', 'counted_setup': 'lent', 'counted_list': 'lent', 'counted_clear': 'lent', 'counted_mark': 'lent', 'event_of': 'lent', 'pack': 'lent'}
 # the modules of the definitions and laws, and of what the panel's own proofs/ has for the walks
 DEFINED = {
     'Rattle.ground.specs.Bytes': ['laid'],
@@ -13,7 +13,7 @@ DEFINED = {
     'Rattle.steps.specs.Start': ['startOf'],
     'Rattle.steps.specs.Step': ['stepOf'],
     'Rattle.lent.specs.Numbers': ['packed', 'facing', 'faced', 'eventOf'],
-    'Rattle.lent.specs.Amend': ['amends', 'amendOf'],
+    'Rattle.lent.specs.Amend': ['amends', 'amendOf', 'listing', 'clearing', 'marking'],
     'Rattle.lent.proofs.InPlace': ['step-in-place', 'setup-in-place', 'amend-in-place'],
     'Rattle.lent.proofs.Faces': ['faced-as', 'step-faced'],
 }

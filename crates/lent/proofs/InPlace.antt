@@ -33,7 +33,7 @@ use Rattle.steps.proofs.Shows.{same-shown}
 use Rattle.lent.specs.declared.Amended.{Amended}
 use Rattle.lent.specs.Lent.{loaded, stored, counted, countedStep, countedSetup, inPlace}
 use Rattle.lent.specs.Numbers.{packed}
-use Rattle.lent.specs.Amend.{Amends, amends, amended, amendOf}
+use Rattle.lent.specs.Amend.{Amends, amends, amendOf}
 
 -- forty records are the table
 pub loaded-forty : (ys : List Node) → length ys ≡ 40 → loaded ys ≡ ys
@@ -149,12 +149,12 @@ pub setup-in-place : (c : Coordinator) (ys zs : List Node) (addresses : List ℕ
 setup-in-place c ys zs addresses subnet internal mac session t r taken forty e back = same-shows (λ l. startOf c l addresses subnet internal mac session) c ys t (unfit-setup c ys addresses subnet internal mac session) taken zs r forty e back
 
 -- a change of one record
-pub amend-in-place : (ys zs : List Node) (change position kind mac session : ℕ) (t : Table) (r : Amended) → t .nodes ≡ loaded ys → length (r .table .nodes) ≡ 40 → amends (r .answer) (r .table .nodes) ≡ amendOf (length ys) (t .nodes) change position kind mac session → zs ≡ stored (r .table .nodes) ys → amends (r .answer) zs ≡ amendOf (length ys) ys change position kind mac session
+pub amend-in-place : (f : List Node → List Node) (ys zs : List Node) (t : Table) (r : Amended) → t .nodes ≡ loaded ys → length (r .table .nodes) ≡ 40 → amends (r .answer) (r .table .nodes) ≡ amendOf (length ys) (t .nodes) (f (t .nodes)) → zs ≡ stored (r .table .nodes) ys → amends (r .answer) zs ≡ amendOf (length ys) ys (f ys)
 unfolding choose
-amend-in-place ys zs change position kind mac session t r taken forty e back = go (eqb (length ys) 40) refl e
+amend-in-place f ys zs t r taken forty e back = go (eqb (length ys) 40) refl e
   where
     does : List Node → Amends
-    does l = amends (packed rests 0 0 0) (amended l change position kind mac session)
+    does l = amends (packed rests 0 0 0) (f l)
 
     refusing : List Node → Amends
     refusing l = amends (packed (refuses StateUnfit) 0 0 0) l

@@ -13,7 +13,9 @@ use Rattle.lent.specs.declared.Amended.{Amended}
 use Rattle.lent.specs.Amend.{amends}
 use Rattle.lent.proofs.counted_step.Reads as counted-step
 use Rattle.lent.proofs.counted_setup.Reads as counted-setup
-use Rattle.lent.proofs.counted_amend.Reads as counted-amend
+use Rattle.lent.proofs.counted_list.Reads as counted-list
+use Rattle.lent.proofs.counted_clear.Reads as counted-clear
+use Rattle.lent.proofs.counted_mark.Reads as counted-mark
 use Rattle.lent.proofs.event_of.Reads as event-of
 use Rattle.lent.proofs.pack.Reads as pack
 
@@ -34,8 +36,14 @@ unique-counted-setup κs a s t r q p p′ = same-shown r q (p ∙ sym p′)
 same-amended : (r q : Amended) → amends (r .answer) (r .table .nodes) ≡ amends (q .answer) (q .table .nodes) → r ≡ q
 same-amended r q e = λ i. record { table = record { nodes = e i .nodes }; answer = e i .answer }
 
-pub unique-counted-amend : (a s t : _) (r q : Amended) → counted-amend.Post tt a r s → counted-amend.Post tt a q t → r ≡ q
-unique-counted-amend a s t r q p p′ = same-amended r q (p ∙ sym p′)
+pub unique-counted-list : (a s t : _) (r q : Amended) → counted-list.Post tt a r s → counted-list.Post tt a q t → r ≡ q
+unique-counted-list a s t r q p p′ = same-amended r q (p ∙ sym p′)
+
+pub unique-counted-clear : (a s t : _) (r q : Amended) → counted-clear.Post tt a r s → counted-clear.Post tt a q t → r ≡ q
+unique-counted-clear a s t r q p p′ = same-amended r q (p ∙ sym p′)
+
+pub unique-counted-mark : (a s t : _) (r q : Amended) → counted-mark.Post tt a r s → counted-mark.Post tt a q t → r ≡ q
+unique-counted-mark a s t r q p p′ = same-amended r q (p ∙ sym p′)
 
 pub unique-event-of : (a s t : _) (r q : Event) → event-of.Post tt a r s → event-of.Post tt a q t → r ≡ q
 unique-event-of a s t r q p p′ = p ∙ sym p′

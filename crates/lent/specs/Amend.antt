@@ -12,11 +12,17 @@ use Rattle.board.specs.Change.{joinedNode, owe}
 use Rattle.steps.specs.After.{rests}
 use Rattle.lent.specs.Numbers.{packed}
 
--- the changes in the rule book's order: list 1, clear 2, mark 3; any other number changes nothing, and so does a position that names nobody
-abbrev pub amended : List Node → ℕ → ℕ → ℕ → ℕ → ℕ → List Node
-amended t change position kind mac session =
-    choose (eqb change 1) (put t position (joinedNode kind mac session))
-    (choose (eqb change 2) (put t position none) (choose (eqb change 3) (put t position (owe (at t position))) t))
+-- a new board listed at a position; a position that names nobody changes nothing, here and below
+abbrev pub listing : List Node → ℕ → ℕ → ℕ → ℕ → List Node
+listing t position kind mac session = put t position (joinedNode kind mac session)
+
+-- the position cleared
+abbrev pub clearing : List Node → ℕ → List Node
+clearing t position = put t position none
+
+-- the list marked as owed to the board at the position; a free one stays as it is
+abbrev pub marking : List Node → ℕ → List Node
+marking t position = put t position (owe (at t position))
 
 -- what the host is shown: the packed answer, and the records where they stand
 pub record Amends : Type 0 where
@@ -26,9 +32,6 @@ pub record Amends : Type 0 where
 abbrev pub amends : ℕ → List Node → Amends
 amends n ys = record { answer = n; nodes = ys }
 
--- an amendment of n records: 22 unless they are forty, else it rests
-abbrev pub amendOf : ℕ → List Node → ℕ → ℕ → ℕ → ℕ → ℕ → Amends
-amendOf n t change position kind mac session =
-    choose (eqb n 40)
-    (amends (packed rests 0 0 0) (amended t change position kind mac session))
-    (amends (packed (refuses StateUnfit) 0 0 0) t)
+-- a change of one of n records: 22 unless they are forty, else it rests
+abbrev pub amendOf : ℕ → List Node → List Node → Amends
+amendOf n t changed = choose (eqb n 40) (amends (packed rests 0 0 0) changed) (amends (packed (refuses StateUnfit) 0 0 0) t)

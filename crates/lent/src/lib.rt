@@ -15,7 +15,7 @@ ghost use Rattle.steps.specs.After.{shown, shows, told, exchangeNumber};
 ghost use Rattle.lent.specs.Lent.{countedStep, countedSetup};
 ghost use Rattle.refusal.specs.Refusal.{refuses};
 ghost use Rattle.lent.specs.Numbers.{eventOf, saying, packed};
-ghost use Rattle.lent.specs.Amend.{amends, amended, amendOf};
+ghost use Rattle.lent.specs.Amend.{amends, listing, clearing, marking, amendOf};
 
 // As many records as a table has.
 const RECORDS: usize = 40;
@@ -70,33 +70,9 @@ pub fn counted_setup(
     )
 }
 
-// The table with one record changed: 1 lists a board, 2 clears the position, 3 marks the list as owed.
-fn amend_at(table: Table, change: u8, position: usize, kind: u8, mac: u64, session: u64) -> Table
-    ensures { λ r. ⌜ r .nodes ≡ amended (table .nodes) change position kind mac session ⌝ }
-{
-    if change == 1 {
-        return board::list_at(table, position, kind, mac, session);
-    }
-    if change == 2 {
-        return board::clear_at(table, position);
-    }
-    if change == 3 {
-        return board::mark_at(table, position);
-    }
-    table
-}
-
-// A change of one record in the table taken from `count` records.
-pub fn counted_amend(
-    table: Table,
-    count: usize,
-    change: u8,
-    position: usize,
-    kind: u8,
-    mac: u64,
-    session: u64,
-) -> Amended
-    ensures { λ r. ⌜ amends (r .answer) (r .table .nodes) ≡ amendOf count (table .nodes) change position kind mac session ⌝ }
+// What comes of a change of one record in the table taken from `count` records: the table changed, or as it was.
+fn amending(table: Table, count: usize, changed: Table) -> Amended
+    ensures { λ r. ⌜ amends (r .answer) (r .table .nodes) ≡ amendOf count (table .nodes) (changed .nodes) ⌝ }
 {
     if count != RECORDS {
         return Amended {
@@ -105,9 +81,41 @@ pub fn counted_amend(
         };
     }
     Amended {
-        table: amend_at(table, change, position, kind, mac, session),
+        table: changed,
         answer: plainly(Answer::Rest),
     }
+}
+
+// A board listed in the table taken from `count` records.
+pub fn counted_list(
+    table: Table,
+    count: usize,
+    position: usize,
+    kind: u8,
+    mac: u64,
+    session: u64,
+) -> Amended
+    ensures { λ r. ⌜ amends (r .answer) (r .table .nodes) ≡ amendOf count (table .nodes) (listing (table .nodes) position kind mac session) ⌝ }
+{
+    amending(
+        table,
+        count,
+        board::list_at(table, position, kind, mac, session),
+    )
+}
+
+// A position cleared in it.
+pub fn counted_clear(table: Table, count: usize, position: usize) -> Amended
+    ensures { λ r. ⌜ amends (r .answer) (r .table .nodes) ≡ amendOf count (table .nodes) (clearing (table .nodes) position) ⌝ }
+{
+    amending(table, count, board::clear_at(table, position))
+}
+
+// The list marked as owed to the board at a position in it.
+pub fn counted_mark(table: Table, count: usize, position: usize) -> Amended
+    ensures { λ r. ⌜ amends (r .answer) (r .table .nodes) ≡ amendOf count (table .nodes) (marking (table .nodes) position) ⌝ }
+{
+    amending(table, count, board::mark_at(table, position))
 }
 
 // The event that C names by its number.

@@ -26,11 +26,13 @@ use Rattle.steps.specs.Step.{stepOf}
 use Rattle.steps.proofs.Shows.{same-shown}
 use Rattle.lent.specs.Lent.{inPlace}
 use Rattle.lent.specs.Numbers.{eventOf, Faced, facing, faced}
-use Rattle.lent.specs.Amend.{Amends, amends, amendOf}
+use Rattle.lent.specs.Amend.{Amends, amends, listing, clearing, marking, amendOf}
 use Rattle.lent.proofs.InPlace.{same-in-place}
 use Rattle.panel.proofs.setup as setup
 use Rattle.panel.proofs.step as step
-use Rattle.panel.proofs.nadrelgos_amend as amend
+use Rattle.panel.proofs.nadrelgos_list as list
+use Rattle.panel.proofs.nadrelgos_clear as clear
+use Rattle.panel.proofs.nadrelgos_mark as mark
 use Rattle.panel.proofs.nadrelgos_setup as setup-for-c
 use Rattle.panel.proofs.nadrelgos_step as step-for-c
 use Rattle.panel.proofs.lend_setup.Reads as lend-setup
@@ -80,9 +82,15 @@ numbered-output a = now (a .1 .1 .1 .1 .1 .1 .1 .0)
 abbrev numbered : Numbered → After
 numbered a = stepOf (now (a .0)) (now (a .1 .0)) (eventOf (a .1 .1 .0) (a .1 .1 .1 .0) (a .1 .1 .1 .1 .0) (a .1 .1 .1 .1 .1 .0)) (now (a .1 .1 .1 .1 .1 .1 .0)) (length (numbered-output a))
 
--- what C passes to an amendment
-abbrev Amendments : Type 0
-Amendments = RefT (List Node) × (ℕ × (ℕ × (ℕ × (ℕ × (ℕ × Unit {0})))))
+-- what is passed to a change of one record: the position, and for a board that is listed its type, MAC and session
+abbrev Listings : Type 0
+Listings = RefT (List Node) × (ℕ × (ℕ × (ℕ × (ℕ × Unit {0}))))
+
+abbrev Positions : Type 0
+Positions = RefT (List Node) × (ℕ × Unit {0})
+
+same-amends : (r q : ℕ) (ys zs : List Node) (does : Amends) → amends r ys ≡ does → amends q zs ≡ does → (r ≡ q) × (ys ≡ zs)
+same-amends r q ys zs does p p′ = (ap (λ (x : Amends). x .answer) (p ∙ sym p′), ap (λ (x : Amends). x .nodes) (p ∙ sym p′))
 
 -- what a step says of its answer r and of what it was passed, at exit
 abbrev pub Says : Steps → Outcome → Steps → Type 0
@@ -98,12 +106,26 @@ module _ {M : Type 1} (𝓤 : URA M) (H : Heap 𝓤) (A : Atoms 𝓤) (at-mem : 
       → ent 𝓤 (sep 𝓤 (step.clauses 𝓤 H A at-mem run κs a .ensures tt r s) (step.clauses 𝓤 H A at-mem run κs a .ensures tt q t)) (fact 𝓤 (Same r q (now (s .0)) (now (t .0)) (now (s .1 .0)) (now (t .1 .0)) × (output s ≡ output t)))
   unique-step κs a r q s t = two-facts 𝓤 (Says a r s) (Says a q t) _ (λ p p′. (same-in-place r q _ _ _ _ (p .0 ∙ sym (p′ .0)), p .1 ∙ sym (p′ .1)))
 
-  pub unique-nadrelgos-amend : (κs : Lft × Unit {0}) (a : Amendments) (r q : ℕ) (s t : Amendments)
-      → ent 𝓤 (sep 𝓤 (amend.clauses 𝓤 H A at-mem run κs a .ensures tt r s) (amend.clauses 𝓤 H A at-mem run κs a .ensures tt q t)) (fact 𝓤 ((r ≡ q) × (now (s .0) ≡ now (t .0))))
-  unique-nadrelgos-amend κs a r q s t = two-facts 𝓤 (amends r (now (s .0)) ≡ does) (amends q (now (t .0)) ≡ does) _ (λ p p′. (ap (λ (x : Amends). x .answer) (p ∙ sym p′), ap (λ (x : Amends). x .nodes) (p ∙ sym p′)))
+  pub unique-nadrelgos-list : (κs : Lft × Unit {0}) (a : Listings) (r q : ℕ) (s t : Listings)
+      → ent 𝓤 (sep 𝓤 (list.clauses 𝓤 H A at-mem run κs a .ensures tt r s) (list.clauses 𝓤 H A at-mem run κs a .ensures tt q t)) (fact 𝓤 ((r ≡ q) × (now (s .0) ≡ now (t .0))))
+  unique-nadrelgos-list κs a r q s t = two-facts 𝓤 (amends r (now (s .0)) ≡ does) (amends q (now (t .0)) ≡ does) _ (same-amends r q _ _ does)
     where
       does : Amends
-      does = amendOf (length (now (a .0))) (now (a .0)) (a .1 .0) (a .1 .1 .0) (a .1 .1 .1 .0) (a .1 .1 .1 .1 .0) (a .1 .1 .1 .1 .1 .0)
+      does = amendOf (length (now (a .0))) (now (a .0)) (listing (now (a .0)) (a .1 .0) (a .1 .1 .0) (a .1 .1 .1 .0) (a .1 .1 .1 .1 .0))
+
+  pub unique-nadrelgos-clear : (κs : Lft × Unit {0}) (a : Positions) (r q : ℕ) (s t : Positions)
+      → ent 𝓤 (sep 𝓤 (clear.clauses 𝓤 H A at-mem run κs a .ensures tt r s) (clear.clauses 𝓤 H A at-mem run κs a .ensures tt q t)) (fact 𝓤 ((r ≡ q) × (now (s .0) ≡ now (t .0))))
+  unique-nadrelgos-clear κs a r q s t = two-facts 𝓤 (amends r (now (s .0)) ≡ does) (amends q (now (t .0)) ≡ does) _ (same-amends r q _ _ does)
+    where
+      does : Amends
+      does = amendOf (length (now (a .0))) (now (a .0)) (clearing (now (a .0)) (a .1 .0))
+
+  pub unique-nadrelgos-mark : (κs : Lft × Unit {0}) (a : Positions) (r q : ℕ) (s t : Positions)
+      → ent 𝓤 (sep 𝓤 (mark.clauses 𝓤 H A at-mem run κs a .ensures tt r s) (mark.clauses 𝓤 H A at-mem run κs a .ensures tt q t)) (fact 𝓤 ((r ≡ q) × (now (s .0) ≡ now (t .0))))
+  unique-nadrelgos-mark κs a r q s t = two-facts 𝓤 (amends r (now (s .0)) ≡ does) (amends q (now (t .0)) ≡ does) _ (same-amends r q _ _ does)
+    where
+      does : Amends
+      does = amendOf (length (now (a .0))) (now (a .0)) (marking (now (a .0)) (a .1 .0))
 
   pub unique-nadrelgos-setup : (κs : Lft × (Lft × (Lft × Unit {0}))) (a : Setups) (r q : ℕ) (s t : Setups)
       → ent 𝓤 (sep 𝓤 (setup-for-c.clauses 𝓤 H A at-mem run κs a .ensures tt r s) (setup-for-c.clauses 𝓤 H A at-mem run κs a .ensures tt q t)) (fact 𝓤 (Same r q (now (s .0)) (now (t .0)) (now (s .1 .0)) (now (t .1 .0))))

@@ -15,7 +15,7 @@ ghost use Rattle.steps.specs.Start.{startOf};
 ghost use Rattle.steps.specs.Step.{stepOf};
 ghost use Rattle.lent.specs.Lent.{loaded, stored, inPlace};
 ghost use Rattle.lent.specs.Numbers.{eventOf, facing, faced};
-ghost use Rattle.lent.specs.Amend.{amends, amendOf};
+ghost use Rattle.lent.specs.Amend.{amends, listing, clearing, marking, amendOf};
 
 // As many as there are, and no more than forty.
 fn at_most_forty(count: usize) -> usize
@@ -99,21 +99,44 @@ pub fn step(
     r.outcome
 }
 
-// One record listed (1), cleared (2) or marked (3), in place.
+// A board listed at a position, in place.
 #[no_mangle]
-pub extern "C" fn nadrelgos_amend(
+pub extern "C" fn nadrelgos_list(
     nodes: &mut [Node],
-    change: u8,
     position: usize,
     kind: u8,
     mac: u64,
     session: u64,
 ) -> u64
-    ensures { λ r. ⌜ amends r (now (nodes .exit)) ≡ amendOf (length (now (nodes .entry))) (now (nodes .entry)) change position kind mac session ⌝ }
+    ensures { λ r. ⌜ amends r (now (nodes .exit)) ≡ amendOf (length (now (nodes .entry))) (now (nodes .entry)) (listing (now (nodes .entry)) position kind mac session) ⌝ }
 {
     let n = nodes.len();
     let t = load(nodes);
-    let r = lent::counted_amend(t, n, change, position, kind, mac, session);
+    let r = lent::counted_list(t, n, position, kind, mac, session);
+    store(nodes, r.table);
+    r.answer
+}
+
+// A position cleared, in place.
+#[no_mangle]
+pub extern "C" fn nadrelgos_clear(nodes: &mut [Node], position: usize) -> u64
+    ensures { λ r. ⌜ amends r (now (nodes .exit)) ≡ amendOf (length (now (nodes .entry))) (now (nodes .entry)) (clearing (now (nodes .entry)) position) ⌝ }
+{
+    let n = nodes.len();
+    let t = load(nodes);
+    let r = lent::counted_clear(t, n, position);
+    store(nodes, r.table);
+    r.answer
+}
+
+// The list marked as owed to the board at a position, in place.
+#[no_mangle]
+pub extern "C" fn nadrelgos_mark(nodes: &mut [Node], position: usize) -> u64
+    ensures { λ r. ⌜ amends r (now (nodes .exit)) ≡ amendOf (length (now (nodes .entry))) (now (nodes .entry)) (marking (now (nodes .entry)) position) ⌝ }
+{
+    let n = nodes.len();
+    let t = load(nodes);
+    let r = lent::counted_mark(t, n, position);
     store(nodes, r.table);
     r.answer
 }
