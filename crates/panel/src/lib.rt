@@ -1,5 +1,5 @@
 // The lent forms: the host's coordinator and records, updated where they stand, for Rattle and for C. Each takes what is lent apart, calls a covered
-// function on copies, and puts back what that function left.
+// function on copies, and puts back what that function left. Records that are not forty get 22, and stay as they were.
 use board::Node;
 use board::Table;
 use coordinator::Coordinator;
