@@ -98,3 +98,12 @@ class Call:
         if self.plain:
             w.drop('no tokens')
         w.use(['result'], of.peeks(result, value, proof))
+
+    def whole(self, w, passed, gave, ended, fact, told):
+        """all of a call that is passed what it may change; `gave` names its result, the result's row, value and proof, `ended` what it leaves in what it was passed"""
+        result, row, value, proof = gave
+        self.ask(w)
+        self.make(w, passed.read(w), result, row, value)
+        self.hear_of(w, ended, passed.last_types(), fact, told)
+        passed.take_lasts(w)
+        self.take_back(w, result, row, value, proof)

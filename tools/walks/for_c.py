@@ -117,11 +117,7 @@ class ForC(Shape):
         self.gather(w, self.passed)
         event, over = ('e', 'e v') if self.event else ('', '')
         call = Call(self.step, at('to-step', over), at('goes-step', over), at('step-args', event), tokens='toks', lifetimes=self.lifetimes)
-        call.ask(w)
-        call.make(w, self.passed.read(w), 'y', OUTCOME, 'z')
-        call.hear_of(w, 'ws', self.passed.last_types(), self.fact('said', y='y', **self.ends), 'ey')
-        self.passed.take_lasts(w)
-        call.take_back(w, 'y', OUTCOME, 'z', 'isy')
+        call.whole(w, self.passed, ('y', OUTCOME, 'z', 'isy'), 'ws', self.fact('said', y='y', **self.ends), 'ey')
         w.land('o', OUTCOME.typed('y', 'isy'))
 
     def pack_outcome(self, w):

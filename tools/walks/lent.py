@@ -4,6 +4,14 @@ from rows import ARRAY, COORDINATOR, NODE, U8
 from terms import abbrev, grouped, nth, token
 
 
+def give_up(x, kind, word, j, count):
+    """what stands for a record or a slice that is lent for writing, at lifetime j of so many, and given to a callee for good"""
+    row, tells = x.of.row, 'mut-tells' if word == 'ref' else 'mut-slice-tells'
+    x.row, x.tells = f'Mut{kind} (named {j}) {x.lifetime} {row}', f'{tells} (named {j}) ({nth("κs", j)}) {row}'
+    x.stays = f'gave-{word} ({j} ∷ []) tt (plain (λ _. {row}))'
+    x.goes = f'goes-gave-{word} 𝓤 H A W {count} {j} tt (plain (λ _. {row}))'
+
+
 class LentSlice(Slice):
     """`&mut [T]`, given to a callee for good: at exit there is what it ended as, of the same length"""
     lent = True
@@ -17,10 +25,7 @@ class LentSlice(Slice):
     def stand(self, i, j, count):
         """it is given up"""
         super().stand(i, j, count)
-        row = self.of.row
-        self.row, self.tells = f'MutSlice (named {j}) {self.lifetime} {row}', f'mut-slice-tells (named {j}) ({nth("κs", j)}) {row}'
-        self.stays = f'gave-slice ({j} ∷ []) tt (plain (λ _. {row}))'
-        self.goes = f'goes-gave-slice 𝓤 H A W {count} {j} tt (plain (λ _. {row}))'
+        give_up(self, 'Slice', 'slice', j, count)
 
     def same_length(self):
         """that it ended as long as it was"""
@@ -105,10 +110,7 @@ class LentRecord(Borrow):
     def stand(self, i, j, count):
         """it is given up"""
         super().stand(i, j, count)
-        row = self.of.row
-        self.row, self.tells = f'MutRef (named {j}) {self.lifetime} {row}', f'mut-tells (named {j}) ({nth("κs", j)}) {row}'
-        self.stays = f'gave-ref ({j} ∷ []) tt (plain (λ _. {row}))'
-        self.goes = f'goes-gave-ref 𝓤 H A W {count} {j} tt (plain (λ _. {row}))'
+        give_up(self, 'Ref', 'ref', j, count)
 
     def reborrow(self, w):
         """&mut *it, in its temporary"""

@@ -145,11 +145,7 @@ class OnCopies(Shape):
         w.tokens_together(self.passed.lifetimes)
         at = f'ν₀ ν₁ δ₀ δ₁ {w.location("d")} {w.location("ns")}'
         call = Call(self.step, f'to-step {at}', f'asked {at}', f'lent-args {at}', tokens=f'toks {at}', lifetimes=nest(self.passed.lifetimes))
-        call.ask(w)
-        call.make(w, self.passed.read(w), 'y', OUTCOME, 'z')
-        call.hear_of(w, 'ws', self.passed.last_types(), self.fact('said', y='y', **self.ends), 'e')
-        self.passed.take_lasts(w)
-        call.take_back(w, 'y', OUTCOME, 'z', 'isz')
+        call.whole(w, self.passed, ('y', OUTCOME, 'z', 'isz'), 'ws', self.fact('said', y='y', **self.ends), 'e')
         w.land('a', OUTCOME.typed('y', 'isz'))
         w.spell('a', OUTCOME, 'y', 'isz', 'u')
         w.tokens_apart(self.passed.lifetimes)

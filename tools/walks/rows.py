@@ -55,28 +55,32 @@ class UInt(Row):
         super().__init__(kind, 'ℕ', f'uint-lawful 𝓤 H A W {width}', f'uint-makes 𝓤 H A W {width}', f'uint-vals {width}', f'uint-tells {width}', f'vint {width}')
 
 
-class Struct(Row):
-    """a struct, whose proofs are imported under the alias, and its laws under the alias with a prime"""
+class Declared(Row):
+    """a struct or an enum: its proofs are imported under the alias, its laws under the alias with a prime; `kind` has the laws of all of its kind"""
+
+    def __init__(self, type_, alias, kind, few):
+        laws = f'{alias}.the-type {alias}′.the-laws'
+        super().__init__(f'{alias}.the-row', type_, f'{kind}.lawful {laws} 𝓤 H A W{few}', f'({kind}.makes {alias}.the-type {alias}′.the-plain) 𝓤 H A',
+                         f'{kind}.vals {laws}', f'{kind}.tells {laws}', f'{kind}.val {laws}', f'{alias}′.mir')
+        self.alias = alias
+
+
+class Struct(Declared):
+    """a struct"""
 
     def __init__(self, type_, alias):
-        laws = f'{alias}.the-type {alias}′.the-laws'
-        super().__init__(f'{alias}.the-row', type_, f'LL.lawful {laws} 𝓤 H A W', f'(LL.makes {alias}.the-type {alias}′.the-plain) 𝓤 H A',
-                         f'LL.vals {laws}', f'LL.tells {laws}', f'LL.val {laws}', f'{alias}′.mir')
-        self.alias = alias
+        super().__init__(type_, alias, 'LL', '')
 
     def listed(self, term):
         """as the laws of structs have it"""
         return f'{self.vals} {grouped(term)}'
 
 
-class Enum(Row):
-    """an enum, imported in the same way"""
+class Enum(Declared):
+    """an enum"""
 
     def __init__(self, type_, alias):
-        laws = f'{alias}.the-type {alias}′.the-laws'
-        super().__init__(f'{alias}.the-row', type_, f'EL.lawful {laws} 𝓤 H A W tt', f'(EL.makes {alias}.the-type {alias}′.the-plain) 𝓤 H A',
-                         f'EL.vals {laws}', f'EL.tells {laws}', f'EL.val {laws}', f'{alias}′.mir')
-        self.alias = alias
+        super().__init__(type_, alias, 'EL', ' tt')
 
 
 U8, U64, USIZE = UInt('u8'), UInt('u64'), UInt('usize')
