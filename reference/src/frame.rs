@@ -14,9 +14,10 @@ pub const OVERHEAD: usize = 12;
 /// 001, table 1: 0 to 240 bytes of payload.
 pub const MAX_PAYLOAD: usize = 240;
 
-/// The fields of one frame; the length and the checksum follow from them.
+/// The fields of one frame, with a payload of some kind; the length and the
+/// checksum follow from them.
 #[derive(Clone, Copy, Debug, Default, PartialEq, Eq)]
-pub struct Frame<'a> {
+pub struct Fields<P> {
     pub destination: u8,
     pub source: u8,
     pub subnet: u8,
@@ -26,8 +27,11 @@ pub struct Frame<'a> {
     pub node_type: u8,
     pub message_type: u8,
     pub packet: u8,
-    pub payload: &'a [u8],
+    pub payload: P,
 }
+
+/// A frame whose payload is a part of other bytes.
+pub type Frame<'a> = Fields<&'a [u8]>;
 
 /// The reader: refusals 1 to 4 in that order, else the fields. The payload is
 /// a part of `bytes` (01, "The frame").
@@ -53,8 +57,9 @@ pub fn read(bytes: &[u8]) -> Result<Frame<'_>, Refusal> {
 
 /// The writer: refusals 10 and 11 in that order, else the frame at the front
 /// of `out` and its length. Bytes of `out` past the frame stay as they are.
-pub fn write(frame: &Frame<'_>, out: &mut [u8]) -> Result<usize, Refusal> {
-    let length = frame.payload.len();
+pub fn write<P: AsRef<[u8]>>(frame: &Fields<P>, out: &mut [u8]) -> Result<usize, Refusal> {
+    let payload = frame.payload.as_ref();
+    let length = payload.len();
     refuse_if(length > MAX_PAYLOAD, Refusal::PayloadTooLong)?;
     refuse_if(out.len() < OVERHEAD + length, Refusal::NoRoom)?;
     out[..PAYLOAD_AT].copy_from_slice(&[
@@ -70,7 +75,7 @@ pub fn write(frame: &Frame<'_>, out: &mut [u8]) -> Result<usize, Refusal> {
         length as u8,
     ]);
     let end = PAYLOAD_AT + length;
-    out[PAYLOAD_AT..end].copy_from_slice(frame.payload);
+    out[PAYLOAD_AT..end].copy_from_slice(payload);
     let tail = checksum::check_bytes(&out[..end]);
     out[end..end + 2].copy_from_slice(&tail);
     Ok(OVERHEAD + length)
