@@ -8,6 +8,8 @@ enum {
     TYPE_R2R = 0x00,
     TYPE_LIST = 0x14,
     TYPE_ECHO = 0x94,
+    TYPE_FIRST_REPLY = 0xF9, /* to Node Discovery, then to Set Address and to Get Node ID */
+    TYPE_LAST_REPLY = 0xFB,
     RESPONSE = 128, /* a response's type is its request's and this */
     CODE_OFFER = 0x00,
     CODE_ACK = 0x06,
@@ -165,6 +167,14 @@ static bool keeps_response(const struct nadrelgos_kept *m) {
     return m->message > RESPONSE && m->length <= CT_PAYLOAD;
 }
 
+static bool stake_fits(const ct_coordinator *c) {
+    return c->stand.board >= 1 && c->stand.board <= c->setup.k;
+}
+
+static bool found_fits(const struct nadrelgos_found *f) {
+    return is_kind(f->kind) && is_mac(f->mac);
+}
+
 static bool stand_fits(const ct_coordinator *c, const ct_node *nodes) {
     const struct nadrelgos_stand *s = &c->stand;
     switch (s->stage) {
@@ -177,13 +187,19 @@ static bool stand_fits(const ct_coordinator *c, const ct_node *nodes) {
     case CT_STAGE_FORWARD_DUE:
         return is_listed(nodes, s->board) && is_listed(nodes, s->requester) && keeps_request(&c->kept);
     case CT_STAGE_RETURN_DUE: return is_listed(nodes, s->board) && keeps_response(&c->kept);
+    case CT_STAGE_WAIT_SEARCH: return stake_fits(c);
+    case CT_STAGE_IDENTIFY_DUE:
+    case CT_STAGE_WAIT_IDENTIFY:
+    case CT_STAGE_WAIT_IDENTIFY_ACKED:
+    case CT_STAGE_ASSIGN_DUE:
+    case CT_STAGE_WAIT_ASSIGN: return stake_fits(c) && found_fits(&c->found);
     default: return false;
     }
 }
 
 static bool is_fit(const ct_coordinator *c, const ct_node *nodes, size_t nodes_count) {
     return nodes_count == NADRELGOS_NODES && pool_fits(c->setup.pool, c->setup.k) && is_mac(c->setup.mac) &&
-           table_fits(nodes, c->setup.k) && stand_fits(c, nodes) &&
+           table_fits(nodes, c->setup.k) && stand_fits(c, nodes) && c->searched <= 1 &&
            (c->held == 0 || (c->held == 1 && anyone_listed(nodes))) && c->last <= c->setup.k;
 }
 
@@ -354,6 +370,7 @@ static struct ct_answer turn_offer(ct_coordinator *c, const ct_node *nodes, uint
     if (refusal) return refuse(refusal);
     c->last = board;
     c->held = 0;
+    c->searched = 0;
     stand(c, CT_STAGE_WAIT_OFFER, board, 0);
     return wait_for(board, NADRELGOS_OFFER, CT_OVERHEAD + SIGNED);
 }
@@ -501,6 +518,13 @@ static struct ct_answer hear_after_return(ct_coordinator *c, ct_node *nodes, con
     return does(NADRELGOS_REST, 0);
 }
 
+/* A response of the exchange by which a board joins, unless the forward now awaited is of the request it answers. */
+static bool is_stray(const ct_coordinator *c, uint8_t message) {
+    if (message < TYPE_FIRST_REPLY || message > TYPE_LAST_REPLY) return false;
+    bool forward = c->stand.stage == CT_STAGE_WAIT_FORWARD || c->stand.stage == CT_STAGE_WAIT_FORWARD_ACKED;
+    return !(forward && message == c->kept.message + RESPONSE);
+}
+
 struct ct_answer ct_hear(ct_coordinator *c, ct_node *nodes, size_t nodes_count, const uint8_t *bytes, size_t count,
                          uint8_t *out, size_t room) {
     if (!is_fit(c, nodes, nodes_count)) return refuse(NADRELGOS_STATE_UNFIT);
@@ -508,6 +532,7 @@ struct ct_answer ct_hear(ct_coordinator *c, ct_node *nodes, size_t nodes_count, 
     ct_refusal refusal = ct_read(bytes, count, &f);
     if (refusal) return refuse(refusal);
     if (f.header.destination != COORDINATOR) return refuse(NADRELGOS_NOT_FOR_US);
+    if (is_stray(c, f.header.message)) return refuse(NADRELGOS_NOT_DISCOVERING);
     if (!is_waiting(c) || f.header.source != address_of(c, c->stand.board)) return refuse(NADRELGOS_NOT_AWAITED);
     switch (c->stand.stage) {
     case CT_STAGE_WAIT_OFFER: return hear_after_offer(c, nodes, &f, out, room);

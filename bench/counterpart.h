@@ -1,5 +1,6 @@
 /* The same job in C: checksum, frame, finder and coordinator, as one would write them for a small panel. Records and
- * numbers are those of the panel's header, so that one state can be handed to both. */
+ * numbers are those of the panel's header, so that one state can be handed to both. The exchange by which a board joins
+ * is left out, for it is not timed: its stages are known to the test of fit alone, and no step here leads to them. */
 #ifndef COUNTERPART_H
 #define COUNTERPART_H
 
@@ -39,7 +40,13 @@ enum ct_stage {
     CT_STAGE_WAIT_FORWARD_ACKED,
     CT_STAGE_WAIT_RETURN,
     CT_STAGE_FORWARD_DUE,
-    CT_STAGE_RETURN_DUE
+    CT_STAGE_RETURN_DUE,
+    CT_STAGE_WAIT_SEARCH,
+    CT_STAGE_IDENTIFY_DUE,
+    CT_STAGE_WAIT_IDENTIFY,
+    CT_STAGE_WAIT_IDENTIFY_ACKED,
+    CT_STAGE_ASSIGN_DUE,
+    CT_STAGE_WAIT_ASSIGN
 };
 
 /* A panel's answer, in the order of the packed one. */

@@ -59,13 +59,18 @@ static bool same_kept(const struct nadrelgos_kept *a, const struct nadrelgos_kep
            memcmp(a->payload, b->payload, sizeof a->payload) == 0;
 }
 
+static bool same_found(const struct nadrelgos_found *a, const struct nadrelgos_found *b) {
+    return a->kind == b->kind && a->mac == b->mac && a->session == b->session;
+}
+
 static bool same_panel(const struct panel *a, const struct panel *b) {
     const ct_coordinator *c = &a->coordinator, *d = &b->coordinator;
     for (size_t i = 0; i < NADRELGOS_NODES; i++)
         if (!same_node(&a->table.nodes[i], &b->table.nodes[i])) return false;
     return same_setup(&c->setup, &d->setup) && c->last == d->last && c->held == d->held &&
-           c->stand.stage == d->stand.stage && c->stand.board == d->stand.board &&
-           c->stand.requester == d->stand.requester && same_kept(&c->kept, &d->kept);
+           c->searched == d->searched && c->stand.stage == d->stand.stage && c->stand.board == d->stand.board &&
+           c->stand.requester == d->stand.requester && same_kept(&c->kept, &d->kept) &&
+           same_found(&c->found, &d->found);
 }
 
 /* ---- frames ---- */

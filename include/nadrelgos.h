@@ -6,7 +6,7 @@
  * crates/ say, for every input; docs/PROMISES.md leads from each rule to its definition, its theorem and its code. This
  * header is not proved: it restates those definitions for whoever writes the firmware. The archive is for x86-64; the
  * assertions at the end stop a build whose records would be laid out otherwise. Of C's library it needs memcpy; a call
- * takes up to some 24 kilobytes of stack, which `hosts/c/run stack` measures.
+ * takes up to some 27 kilobytes of stack, which `hosts/c/run stack` measures.
  *
  * WHO OWNS WHAT
  *   The host owns all memory: one coordinator record, forty node records, and the buffers. Nothing is allocated and
@@ -30,22 +30,56 @@
  *
  * THE CALLS
  *   After setup the firmware goes round, for ever:
- *     1. Where a board wants to join, call nadrelgos_join. Refused 14 or 15: keep the join and try again after a
- *        later step.
+ *     1. Where it is time to look for boards (see WHEN TO LOOK), call nadrelgos_discover. The answer is NADRELGOS_WAIT:
+ *        send what was written, start the reply timer, and go on at 3. Refused 14, 15 or 16: not now. Go on at 2, and
+ *        call it again after a later step.
  *     2. Call nadrelgos_turn. The answer is NADRELGOS_WAIT: send what was written, and start the reply timer.
- *        (Refused 19: nobody is listed. Go back to 1.)
+ *        (Refused 19: nobody is listed and nothing is due. Go back to 1.)
  *     3. For each frame that comes in call nadrelgos_frame, until the wait is over:
- *          NADRELGOS_REST      it was an ACK that ends the wait. Nothing to send.
- *          NADRELGOS_TRANSMIT  it was taken. Send the ACK that was written; the wait is over.
+ *          NADRELGOS_REST      it was an ACK that ends the wait, or it answered a discovery. Nothing to send; the wait
+ *                              is over.
+ *          NADRELGOS_TRANSMIT  it was taken. Send the ACK that was written; the wait is over. Where the answer names a
+ *                              position joined, a board has joined there.
  *          NADRELGOS_DELIVER   it was a request for the host. Send the ACK that was written, then see to the request:
  *                              type received[7], payload received + 10, received[9] bytes long. The wait is over.
- *          NADRELGOS_WAIT      a forwarded request was acknowledged and its response is still to come. Nothing to
- *                              send: start the timer again and go on listening.
- *          refused 1 to 9      it was not taken. The wait goes on, and so does the timer.
+ *          NADRELGOS_WAIT      it was an ACK, to a forwarded request or to Get Node ID, and the response is still to
+ *                              come. Nothing to send: start the timer again and go on listening.
+ *          refused 1 to 9, 23  it was not taken. The wait goes on, and so does the timer.
  *     4. Where the reply timer has run out and the wait is still on, call nadrelgos_quiet. The answer is
  *        NADRELGOS_REST; where the board missed its third message in a row it names the board dropped.
- *   The host's own part is the wire: when a frame begins and ends, how long a reply may take, the pauses between
- *   frames, and the exchange by which a board joins. A join is told to the panel as a finished fact.
+ *   The host's own part is the wire and the clock: when a frame begins and ends, how long a reply may take, the pauses
+ *   between frames, and when to look for boards.
+ *
+ * HOW A BOARD JOINS
+ *   By an exchange that nadrelgos_discover starts and that turns, frames and quiets carry on, in the round above as all
+ *   else (Networking Specification, 11.11). The position that it names is the one whose address is at stake: in search
+ *   the lowest free one; then the lowest free one too, or the board's own where its MAC is listed.
+ *     search     Node Discovery was sent to all boards. Of those that have no address one answers; it is kept as
+ *                `found`, and Get Node ID goes out at the next turn. Quiet: there is none.
+ *     identify   Get Node ID was sent to the address that it is to have. Quiet: the address is free, and Set Address
+ *                goes out at the next turn. Somebody who answers with his ID has that address already: he joins, where
+ *                a join of his would be taken and give him that very position. What was found is found again by a
+ *                later discovery.
+ *     assign     Set Address was sent to what was found. It joins where it answers the same from the new address.
+ *   A board that joins in the exchange needs no nadrelgos_join: NADRELGOS_TRANSMIT names its position, the node list is
+ *   then owed to every board, and further joins and discoveries are held until the next offer. Every other end breaks
+ *   the exchange off, and the same boards are listed as before. Quiet in the exchange is a miss for no board. While it
+ *   runs no other join or discovery is taken (14). It has at most six accepted steps.
+ *
+ * HOW LONG TO WAIT
+ *   Three seconds in each wait, and three more where an ACK was answered by NADRELGOS_WAIT (Networking Specification,
+ *   7.8 and 11.11). In search a board may take 2.5 seconds before it begins (11.1). Do not cut identify short: the
+ *   address of a board that answers too late is given to another.
+ *
+ * WHEN TO LOOK
+ *   At least once in 120 seconds (11.13), and soon after a board has joined, since others may have held back when they
+ *   heard it answer. While anyone is listed the panel takes one discovery between two offers (15): it can be asked for
+ *   at every chance, and keeps no board from its turn. With nobody listed there is nothing else to do.
+ *   After an exchange that broke off in identify leave discovery alone for FIVE MINUTES. It did so where the wait in
+ *   identify is over, no board has joined and stand.stage is 0: at a frame that was answered by NADRELGOS_TRANSMIT
+ *   without a position joined, or at a quiet after the ACK. Somebody has the address at stake who gives no ID, or
+ *   cannot be listed there, and it would be at stake in every discovery; he loses it when nothing is sent to him for a
+ *   while (9.1.2). Turns, frames and quiets go on meanwhile.
  *
  * READING THE RECORDS
  *   Between calls the host may read every field, as for its screen: the table is the list of who is there. It must not
@@ -79,7 +113,7 @@ extern "C" {
 struct nadrelgos_node {
     uint8_t kind;     /* node type; 0 where the position is free, never 165 */
     uint64_t mac;     /* 1 to NADRELGOS_MAC_MAX, no two boards' alike */
-    uint64_t session; /* as the board last gave it, in a join or an ACK */
+    uint64_t session; /* as the board last gave it when it joined, or in an ACK to an offer, a forward or a return */
     uint8_t misses;   /* messages in a row that it left unanswered since it joined or was last heard: 0 to 2 */
     uint8_t owed;     /* 1 where the node list is still to be sent to it, else 0 */
 };
@@ -97,9 +131,12 @@ struct nadrelgos_settings {
 /* What the panel is about, and the positions that it names. */
 struct nadrelgos_stand {
     /* 0 nothing; a wait for the answer to 1 an offer, 2 a list, 3 a forward, 4 a forward whose ACK has come,
-       5 a return; to be sent at the next turn: 6 a forward, 7 a return */
+       5 a return; to be sent at the next turn: 6 a forward, 7 a return. The exchange by which a board joins: 8 the wait
+       in search; 9 Get Node ID to be sent at the next turn; 10 the wait in identify, 11 the same once an ACK has come;
+       12 Set Address to be sent at the next turn; 13 the wait in assign */
     uint8_t stage;
-    size_t board;     /* stages 1 to 7: the board awaited, or the one it goes to */
+    size_t board;     /* stages 1 to 7: the board awaited, or the one it goes to; 8 to 13: the position whose address is
+                         at stake, listed or not */
     size_t requester; /* stages 3, 4 and 6: the board that made the request */
 };
 
@@ -114,46 +151,62 @@ struct nadrelgos_kept {
     uint8_t payload[240]; /* zeros past its length */
 };
 
+/* The board that a discovery has found: stages 9 to 13. Zeros in every other stage, where it is not looked at. */
+struct nadrelgos_found {
+    uint8_t kind;     /* its node type, neither 0 nor 165 */
+    uint64_t mac;     /* 1 to NADRELGOS_MAC_MAX */
+    uint64_t session; /* by which it knows Set Address as its own */
+};
+
 /* The coordinator's record. */
 struct nadrelgos_coordinator {
     struct nadrelgos_settings setup;
-    size_t last;  /* the position last offered the bus; 0 before the first offer */
-    uint8_t held; /* 1 where joins are held until the next offer, else 0 */
+    size_t last;      /* the position last offered the bus; 0 before the first offer */
+    uint8_t held;     /* 1 where joins are held until the next offer, else 0 */
+    uint8_t searched; /* 1 where a discovery was started since the last offer, else 0 */
     struct nadrelgos_stand stand;
     struct nadrelgos_kept kept;
+    struct nadrelgos_found found;
 };
 
 /* What the panel now does: byte 1 of an answer. */
 enum nadrelgos_answer_number {
     NADRELGOS_REFUSED = 0,  /* nothing: the call was refused and changed nothing */
-    NADRELGOS_WAIT = 1,     /* it waits for the board that the answer names: send what was written, if anything was */
+    NADRELGOS_WAIT = 1,     /* it waits for an answer: send what was written, if anything was */
     NADRELGOS_DELIVER = 2,  /* a request for the host was taken, the ACK written: send it, then see to the request */
-    NADRELGOS_TRANSMIT = 3, /* a frame was taken, the ACK written: send it */
-    NADRELGOS_REST = 4      /* nothing to send: a setup, a join, a quiet, an ACK that ended its wait */
+    NADRELGOS_TRANSMIT = 3, /* a frame was taken, the ACK written: send it. It may name a position joined */
+    NADRELGOS_REST = 4      /* nothing to send: a setup, a join, a quiet, an ACK that ended its wait, an answer to a
+                               discovery */
 };
 
-/* What the awaited board was sent: byte 3 of an answer that waits. */
+/* What the awaited board was sent: byte 3 of an answer that waits. The last three: the exchange by which one joins. */
 enum nadrelgos_exchange_number {
-    NADRELGOS_OFFER = 1,   /* the bus; it answers an ACK, or a request of its own */
-    NADRELGOS_LIST = 2,    /* the node list; it answers the same list */
-    NADRELGOS_FORWARD = 3, /* another board's request; it answers the response, or an ACK and then the response */
-    NADRELGOS_RETURN = 4   /* the response to its own request; it answers an ACK */
+    NADRELGOS_OFFER = 1,    /* the bus; it answers an ACK, or a request of its own */
+    NADRELGOS_LIST = 2,     /* the node list; it answers the same list */
+    NADRELGOS_FORWARD = 3,  /* another board's request; it answers the response, or an ACK and then the response */
+    NADRELGOS_RETURN = 4,   /* the response to its own request; it answers an ACK */
+    NADRELGOS_SEARCH = 5,   /* Node Discovery, to all; a board without an address answers type, MAC and session */
+    NADRELGOS_IDENTIFY = 6, /* Get Node ID, to the address at stake; who has it answers type, MAC and session, or an ACK
+                               and then these; where it is free nobody answers */
+    NADRELGOS_ASSIGN = 7    /* Set Address, to all; the board found answers the same, from the address at stake */
 };
 
 /* What has happened: the event of a step. The wrappers below name it. */
 enum nadrelgos_event_number {
-    NADRELGOS_EVENT_JOIN = 1,  /* a board has joined: kind, mac, session */
-    NADRELGOS_EVENT_TURN = 2,  /* the line is free: out */
-    NADRELGOS_EVENT_FRAME = 3, /* bytes came in: received, out */
-    NADRELGOS_EVENT_QUIET = 4  /* no answer came in time */
+    NADRELGOS_EVENT_JOIN = 1,    /* a board has joined: kind, mac, session */
+    NADRELGOS_EVENT_TURN = 2,    /* the line is free: out */
+    NADRELGOS_EVENT_FRAME = 3,   /* bytes came in: received, out */
+    NADRELGOS_EVENT_QUIET = 4,   /* no answer came in time */
+    NADRELGOS_EVENT_DISCOVER = 5 /* boards without an address are to be looked for: out */
 };
 
 /*
  * The numbers by which a call is refused: byte 0 of an answer, 0 where it was accepted. Each says when it is given,
  * then what the firmware does next. "Listen on" means: the wait, where one is on, is still on. Drop the bytes and go on
- * listening until a frame ends the wait; when the reply timer has run out, call nadrelgos_quiet. Where more than one
- * holds, the first in this order is given: 22; then in setup 21, 13; in a join 12 to 17; in a turn 18, 19, 11; in a
- * frame 1 to 9, then 11; in a quiet 20.
+ * listening until a frame ends the wait; when the reply timer has run out, call nadrelgos_quiet. "The exchange" is the
+ * one by which a board joins: stages 8 to 13. Where more than one holds, the first in this order is given: 22; then in
+ * setup 21, 13; in a join 12 to 17; in a discover 14, 15, 16, 11; in a turn 18, 19, 11; in a frame 1 to 5, 23, 6 to 9,
+ * 11; in a quiet 20.
  */
 enum nadrelgos_refusal_number {
     NADRELGOS_ACCEPTED = 0,
@@ -165,30 +218,45 @@ enum nadrelgos_refusal_number {
     NADRELGOS_BAD_CHECKSUM = 4,    /* its two sums are not 0 */
 
     /* a frame: good, and not what is awaited. Listen on. */
-    NADRELGOS_NOT_FOR_US = 5,      /* its destination is not 255, the coordinator */
-    NADRELGOS_NOT_AWAITED = 6,     /* no wait is on, or it is from another board than the one awaited */
-    NADRELGOS_UNEXPECTED_TYPE = 7, /* a message type that this wait does not take; or type 0 that is no ACK of this
-                                      board: another form, or another MAC, as where a board was exchanged */
-    NADRELGOS_BAD_ECHO = 8,        /* after a list: another list than the one sent */
-    NADRELGOS_BAD_METHOD = 9,      /* a request with a send method above 3 */
+    NADRELGOS_NOT_FOR_US = 5,       /* its destination is not 255, the coordinator */
+    NADRELGOS_NOT_DISCOVERING = 23, /* a response to Node Discovery, Set Address or Get Node ID, types 249 to 251, and
+                                       the exchange is not running. It came after its wait: if this is common, the reply
+                                       timer is too short. Its sender is found again by a later discovery. Never given
+                                       where such a request was forwarded and this is the response awaited */
+    NADRELGOS_NOT_AWAITED = 6,      /* no wait is on, or it is from another board than the one awaited. In search source
+                                       0 is awaited, in identify and assign the address at stake */
+    NADRELGOS_UNEXPECTED_TYPE = 7,  /* a message type that this wait does not take; or type 0 that is no ACK of this
+                                       board: another form, or another MAC, as where a board was exchanged. In identify
+                                       an ACK of any MAC is taken, but no second one. In search and identify also a
+                                       response whose payload is not 18, or 17, bytes long */
+    NADRELGOS_BAD_ECHO = 8,         /* after a list: another list than the one sent. After Set Address: another payload
+                                       than the one sent, of whatever length */
+    NADRELGOS_BAD_METHOD = 9,       /* a request with a send method above 3 */
 
     /* what is written */
     NADRELGOS_PAYLOAD_TOO_LONG = 10, /* a payload over 240 bytes to write. These functions never give it */
-    NADRELGOS_NO_ROOM = 11,          /* a turn or a frame: out is shorter than the frame due. Call again with more room,
-                                        and for a frame with the same bytes. NADRELGOS_ROOM always suffices */
+    NADRELGOS_NO_ROOM = 11,          /* a turn, a frame or a discover: out is shorter than the frame due. Call again
+                                        with more room, and for a frame with the same bytes. NADRELGOS_ROOM always
+                                        suffices */
 
-    /* a join */
-    NADRELGOS_BAD_TYPE = 12,      /* node type 0 or 165; also an event number that is none of the four. Give it up */
+    /* a join, and where it says so a discover */
+    NADRELGOS_BAD_TYPE = 12,      /* node type 0 or 165; also an event number that is none of the five. Give it up */
     NADRELGOS_BAD_MAC = 13,       /* a MAC of 0 or above NADRELGOS_MAC_MAX, in a setup too. Give it up */
-    NADRELGOS_BUSY = 14,          /* a wait is on, or a forward, a return or a list is due. Keep the join, go on with
-                                     turns, and try again after each step that leaves no wait */
-    NADRELGOS_HELD = 15,          /* no offer was made since the last join. The same */
-    NADRELGOS_FULL = 16,          /* a new MAC, and all k positions are taken. Try again when a board was dropped */
-    NADRELGOS_ADDRESS_CLASH = 17, /* the address chosen is listed already. Proved never to be given (FitForEver) */
+    NADRELGOS_BUSY = 14,          /* a join, a discover: a wait is on, a forward, a return or a list is due, or the
+                                     exchange is running. Keep the join, go on with turns, and try again after each step
+                                     that leaves no wait */
+    NADRELGOS_HELD = 15,          /* a join, a discover: no offer was made since the last join. A discover: someone is
+                                     listed, and none was made since the last discovery. The same */
+    NADRELGOS_FULL = 16,          /* a join of a new MAC, a discover: all k positions are taken. Try again when a board
+                                     was dropped. Until then a listed board that has lost its address is not found
+                                     either */
+    NADRELGOS_ADDRESS_CLASH = 17, /* a join: the address chosen is listed already. Proved never to be given
+                                     (FitForEver) */
 
     /* a turn */
     NADRELGOS_AWAITING_REPLY = 18, /* a wait is on. Call nadrelgos_frame or nadrelgos_quiet first */
-    NADRELGOS_NOBODY_LISTED = 19,  /* no board is listed, so that there is nobody to talk to. Wait for a join */
+    NADRELGOS_NOBODY_LISTED = 19,  /* no board is listed and nothing of the exchange is due, so that there is nobody to
+                                      talk to. Call nadrelgos_discover */
 
     /* a quiet */
     NADRELGOS_NOT_WAITING = 20, /* no wait is on: the reply timer ran on after the wait. Stop it; call nadrelgos_turn */
@@ -225,7 +293,8 @@ uint64_t nadrelgos_setup(struct nadrelgos_coordinator *coordinator, struct nadre
  *   event                  one of enum nadrelgos_event_number. Any other is a join of node type 0: always refused
  *   kind, mac, session     looked at in a join only
  *   received, .._count     looked at in a frame only: the bytes of one whole frame, check bytes included
- *   out, out_count         written in a turn and a frame only: the frame to send, at the front. Bytes past it stay
+ *   out, out_count         written in a turn, a frame and a discover only: the frame to send, at the front. Bytes past
+ *                          it stay
  */
 uint64_t nadrelgos_step(struct nadrelgos_coordinator *coordinator, struct nadrelgos_node *nodes, size_t nodes_count,
                         uint8_t event, uint8_t kind, uint64_t mac, uint64_t session, const uint8_t *received,
@@ -266,14 +335,16 @@ static inline unsigned nadrelgos_refusal(uint64_t answer) { return (unsigned)(an
 /* What the panel now does, by enum nadrelgos_answer_number. */
 static inline unsigned nadrelgos_answer(uint64_t answer) { return (unsigned)(answer >> 8 & 0xFF); }
 
-/* The position of the board awaited; 0 in an answer that does not wait. */
+/* The position of the board awaited; in search, identify and assign the one whose address is at stake, listed or not.
+   0 in an answer that does not wait. */
 static inline unsigned nadrelgos_board(uint64_t answer) { return (unsigned)(answer >> 16 & 0xFF); }
 
-/* What that board was sent, by enum nadrelgos_exchange_number; 0 in an answer that does not wait. */
+/* What it was sent, by enum nadrelgos_exchange_number; 0 in an answer that does not wait. */
 static inline unsigned nadrelgos_exchange(uint64_t answer) { return (unsigned)(answer >> 24 & 0xFF); }
 
-/* The position that a join gave: the lowest free one, or the board's own where its MAC is listed already. The board
-   is to have the address coordinator->setup.pool[position - 1]. */
+/* The position that a join gave, or that a board got in the exchange: the lowest free one, or the board's own where its
+   MAC is listed already. Its address is coordinator->setup.pool[position - 1]: after a join of the host's it is to have
+   it, after the exchange it has it. */
 static inline unsigned nadrelgos_joined(uint64_t answer) { return (unsigned)(answer >> 32 & 0xFF); }
 
 /* The position that a quiet freed: its board left a third message in a row unanswered. */
@@ -285,8 +356,9 @@ static inline size_t nadrelgos_written(uint64_t answer) { return (size_t)(answer
 /* The steps. `nodes` are NADRELGOS_NODES records. */
 
 /*
- * A board has joined. A new MAC gets the lowest free position; a listed one keeps its position and its type, has its
- * session replaced and its misses cleared. The list is then owed to every board. Refused 22, 12 to 17.
+ * A board has joined by other means than a discovery, as where the host has set its address itself. It is told as a
+ * finished fact. A new MAC gets the lowest free position; a listed one keeps its position and its type, has its session
+ * replaced and its misses cleared. The list is then owed to every board. Refused 22, 12 to 17.
  */
 static inline uint64_t nadrelgos_join(struct nadrelgos_coordinator *coordinator, struct nadrelgos_node *nodes,
                                       uint8_t kind, uint64_t mac, uint64_t session) {
@@ -297,9 +369,20 @@ static inline uint64_t nadrelgos_join(struct nadrelgos_coordinator *coordinator,
 }
 
 /*
- * The panel's turn: it writes the next frame to send and waits for the board that it goes to. A return that is due
- * comes first, then a forward, then the lists that are owed, then an offer to the next board round. Refused 22, 18, 19,
- * 11.
+ * Boards without an address are to be looked for: it writes Node Discovery, 13 bytes, and waits in search. It is taken
+ * where the join of a new MAC would be, and while anyone is listed once between two offers. Refused 22, 14, 15, 16, 11.
+ */
+static inline uint64_t nadrelgos_discover(struct nadrelgos_coordinator *coordinator, struct nadrelgos_node *nodes,
+                                          uint8_t *out, size_t out_count) {
+    const uint8_t no_bytes = 0;
+    return nadrelgos_step(coordinator, nodes, NADRELGOS_NODES, NADRELGOS_EVENT_DISCOVER, 0, 0, 0, &no_bytes, 0, out,
+                          out_count);
+}
+
+/*
+ * The panel's turn: it writes the next frame to send and waits for the answer. A return that is due comes first, then a
+ * forward, then what the exchange by which a board joins has due, then the lists that are owed, then an offer to the
+ * next board round. Refused 22, 18, 19, 11.
  */
 static inline uint64_t nadrelgos_turn(struct nadrelgos_coordinator *coordinator, struct nadrelgos_node *nodes,
                                       uint8_t *out, size_t out_count) {
@@ -310,7 +393,8 @@ static inline uint64_t nadrelgos_turn(struct nadrelgos_coordinator *coordinator,
 
 /*
  * A frame came in: one whole frame, check bytes included. Where it is taken the board's misses are cleared, and the ACK
- * due to it, where one is, is written. Refused 22, 1 to 9, 11.
+ * due to it, where one is, is written. In identify somebody else may sit at a listed board's address: there its misses
+ * are cleared only where the MAC is its own. Refused 22, 1 to 5, 23, 6 to 9, 11.
  */
 static inline uint64_t nadrelgos_frame(struct nadrelgos_coordinator *coordinator, struct nadrelgos_node *nodes,
                                        const uint8_t *received, size_t received_count, uint8_t *out,
@@ -321,8 +405,8 @@ static inline uint64_t nadrelgos_frame(struct nadrelgos_coordinator *coordinator
 
 /*
  * The time for the reply has passed and the wait is still on: the board has one miss more, and the third in a row drops
- * it. Where the ACK to a forward has come and its response has not, there is no miss. The exchange is over either way.
- * Refused 22, 20.
+ * it. Where the ACK to a forward has come and its response has not, there is no miss, nor is there one in search,
+ * identify and assign. The wait is over either way; after identify without an ACK Set Address is due. Refused 22, 20.
  */
 static inline uint64_t nadrelgos_quiet(struct nadrelgos_coordinator *coordinator, struct nadrelgos_node *nodes) {
     const uint8_t no_bytes = 0;
@@ -369,12 +453,19 @@ NADRELGOS_LAID_OUT(offsetof(struct nadrelgos_kept, parameter) == 4);
 NADRELGOS_LAID_OUT(offsetof(struct nadrelgos_kept, length) == 8);
 NADRELGOS_LAID_OUT(offsetof(struct nadrelgos_kept, payload) == 16);
 
-NADRELGOS_LAID_OUT(sizeof(struct nadrelgos_coordinator) == 368);
+NADRELGOS_LAID_OUT(sizeof(struct nadrelgos_found) == 24);
+NADRELGOS_LAID_OUT(offsetof(struct nadrelgos_found, kind) == 0);
+NADRELGOS_LAID_OUT(offsetof(struct nadrelgos_found, mac) == 8);
+NADRELGOS_LAID_OUT(offsetof(struct nadrelgos_found, session) == 16);
+
+NADRELGOS_LAID_OUT(sizeof(struct nadrelgos_coordinator) == 392);
 NADRELGOS_LAID_OUT(offsetof(struct nadrelgos_coordinator, setup) == 0);
 NADRELGOS_LAID_OUT(offsetof(struct nadrelgos_coordinator, last) == 72);
 NADRELGOS_LAID_OUT(offsetof(struct nadrelgos_coordinator, held) == 80);
+NADRELGOS_LAID_OUT(offsetof(struct nadrelgos_coordinator, searched) == 81);
 NADRELGOS_LAID_OUT(offsetof(struct nadrelgos_coordinator, stand) == 88);
 NADRELGOS_LAID_OUT(offsetof(struct nadrelgos_coordinator, kept) == 112);
+NADRELGOS_LAID_OUT(offsetof(struct nadrelgos_coordinator, found) == 368);
 #undef NADRELGOS_LAID_OUT
 #endif
 

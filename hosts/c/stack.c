@@ -4,7 +4,7 @@
  * how deep it went. A call that does nothing is measured first and taken off. x86-64, as the archive is.
  *
  * The steps are those of a full table, forty boards, with the longest payloads that a frame can carry: accepted and
- * refused joins, lists, offers, requests by each method with their forwards and returns, misses, drops.
+ * refused joins and discoveries, lists, offers, requests by each method with their forwards and returns, misses, drops.
  */
 #include "nadrelgos.h"
 #include "wire.h"
@@ -29,7 +29,7 @@ static size_t received_count;
 static _Alignas(64) uint8_t stack[STACK];
 
 /* what is called: a step by its event's number, or one of these */
-enum { SETUP = 0, MARK = 5, CALLS = 6, NOTHING = 255 };
+enum { SETUP = 0, MARK = 6, CALLS = 7, NOTHING = 255 };
 
 struct call {
     uint8_t event;
@@ -132,6 +132,29 @@ static void until_offered(void) {
     astray = true;
 }
 
+/* The exchange by which a board joins: it has the address at stake already and gives its ID, or is given the address. */
+static void join_by_discovery(unsigned p, bool has_address) {
+    const struct sender nobody = {0, 0, 0};
+    uint8_t who[18] = {FURNACE}; /* type, a byte of no meaning, MAC, session: the answer to Node Discovery */
+    wire_put_word(who + 2, p);
+    wire_put_word(who + 10, 1);
+    if (nadrelgos_board(measure(NADRELGOS_EVENT_DISCOVER, 0, 0)) != p) astray = true;
+    received_count = wire_frame(received, nobody, TYPE_DISCOVER + TYPE_RESPONSE, 0, 0, 0, who, sizeof who);
+    measure(NADRELGOS_EVENT_FRAME, 0, 0);
+    measure(NADRELGOS_EVENT_TURN, 0, 0);
+    uint64_t answer;
+    if (has_address) {
+        acks(p);
+        who[1] = FURNACE; /* its ID has no such byte */
+        answer = says(p, TYPE_IDENTIFY + TYPE_RESPONSE, 0, 0, who + 1, sizeof who - 1);
+    } else {
+        measure(NADRELGOS_EVENT_QUIET, 0, 0);
+        measure(NADRELGOS_EVENT_TURN, 0, 0);
+        answer = says(p, TYPE_ASSIGN + TYPE_RESPONSE, 0, 0, out + AT_PAYLOAD, out[AT_LENGTH]);
+    }
+    if (nadrelgos_joined(answer) != p) astray = true;
+}
+
 /* A request with the longest payload, by each method; the board that it is for answers, or is silent. */
 static void carry(uint8_t method, uint8_t parameter, bool acknowledges, bool answers) {
     uint8_t payload[LONGEST];
@@ -157,11 +180,17 @@ int main(void) {
 
     for (unsigned i = 0; i < sizeof pool; i++) pool[i] = (uint8_t)(FIRST_ADDRESS + i);
     measure(SETUP, 0, 0);
-    for (unsigned p = 1; p <= NADRELGOS_NODES; p++) {
+    for (unsigned p = 1; p <= NADRELGOS_NODES - 2; p++) {
         if (nadrelgos_joined(measure(NADRELGOS_EVENT_JOIN, (uint8_t)(1 + p % KINDS), p)) != p) astray = true;
         measure(NADRELGOS_EVENT_JOIN, 1, 99); /* busy */
         until_offered();
     }
+    join_by_discovery(NADRELGOS_NODES - 1, true);
+    measure(NADRELGOS_EVENT_DISCOVER, 0, 0); /* busy */
+    until_offered();
+    join_by_discovery(NADRELGOS_NODES, false);
+    until_offered();
+    measure(NADRELGOS_EVENT_DISCOVER, 0, 0);           /* full */
     measure(NADRELGOS_EVENT_JOIN, 1, 99);              /* full */
     measure(NADRELGOS_EVENT_JOIN, 1, NADRELGOS_NODES); /* a board that comes back */
     until_offered();
@@ -189,9 +218,9 @@ int main(void) {
     }
 
     printf("stack of one call, in bytes, over %u calls on a full table (%u refused):\n", calls, refused);
-    printf("  setup %u, join %u, turn %u, frame %u, quiet %u, mark %u\n", (unsigned)deepest[SETUP],
+    printf("  setup %u, join %u, turn %u, frame %u, quiet %u, discover %u, mark %u\n", (unsigned)deepest[SETUP],
            (unsigned)deepest[NADRELGOS_EVENT_JOIN], (unsigned)deepest[NADRELGOS_EVENT_TURN],
            (unsigned)deepest[NADRELGOS_EVENT_FRAME], (unsigned)deepest[NADRELGOS_EVENT_QUIET],
-           (unsigned)deepest[MARK]);
+           (unsigned)deepest[NADRELGOS_EVENT_DISCOVER], (unsigned)deepest[MARK]);
     return 0;
 }

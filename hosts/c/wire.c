@@ -28,11 +28,19 @@ size_t wire_frame(uint8_t *frame, struct sender from, uint8_t type, uint8_t pack
 
 size_t wire_ack(uint8_t *frame, struct sender from, uint64_t mac, uint64_t session) {
     uint8_t payload[R2R_LENGTH] = {CODE_ACK};
-    for (unsigned i = 0; i < 8; i++) {
-        payload[1 + i] = (uint8_t)(mac >> 8 * i);
-        payload[9 + i] = (uint8_t)(session >> 8 * i);
-    }
+    wire_put_word(payload + 1, mac);
+    wire_put_word(payload + 9, session);
     return wire_frame(frame, from, TYPE_R2R, DATAFLOW, 0, 0, payload, sizeof payload);
+}
+
+uint64_t wire_word(const uint8_t *bytes) {
+    uint64_t word = 0;
+    for (unsigned i = 8; i > 0; i--) word = word << 8 | bytes[i - 1];
+    return word;
+}
+
+void wire_put_word(uint8_t *bytes, uint64_t word) {
+    for (unsigned i = 0; i < 8; i++) bytes[i] = (uint8_t)(word >> 8 * i);
 }
 
 bool wire_good(const uint8_t *frame, size_t count) {

@@ -6,16 +6,17 @@
 #include <stddef.h>
 #include <stdint.h>
 
-/* The coordinator's address, and the bytes of a frame beside its payload. */
-enum { WIRE_PANEL = 255, WIRE_AROUND = 12, WIRE_MOST = 252 };
+/* The coordinator's address, that of all boards, and the bytes of a frame beside its payload. */
+enum { WIRE_PANEL = 255, WIRE_ALL = 0, WIRE_AROUND = 12, WIRE_MOST = 252 };
 
 /* Where the bytes of a frame stand. */
 enum { AT_DESTINATION, AT_SOURCE, AT_SUBNET, AT_METHOD, AT_PARAMETER, AT_PARAMETER_2, AT_KIND, AT_TYPE, AT_PACKET,
        AT_LENGTH, AT_PAYLOAD };
 
-/* Message types (API Reference, table 68): R2R and ACK, control command, display message, node list; a response has its
-   request's type and this more. */
-enum { TYPE_R2R = 0x00, TYPE_CONTROL = 0x03, TYPE_DISPLAY = 0x04, TYPE_LIST = 0x14, TYPE_RESPONSE = 0x80 };
+/* Message types (API Reference, table 68): R2R and ACK, control command, display message, node list, Node Discovery,
+   Set Address, Get Node ID; a response has its request's type and this more. */
+enum { TYPE_R2R = 0x00, TYPE_CONTROL = 0x03, TYPE_DISPLAY = 0x04, TYPE_LIST = 0x14, TYPE_DISCOVER = 0x79,
+       TYPE_ASSIGN = 0x7A, TYPE_IDENTIFY = 0x7B, TYPE_RESPONSE = 0x80 };
 
 /* The first byte of an R2R frame's payload, the length of that, and its packet number (API Reference, 6.1 and 4.3). */
 enum { CODE_OFFER = 0x00, CODE_ACK = 0x06, R2R_LENGTH = 17, DATAFLOW = 0x80 };
@@ -29,8 +30,12 @@ struct sender {
 size_t wire_frame(uint8_t *frame, struct sender from, uint8_t type, uint8_t packet, uint8_t method, uint8_t parameter,
                   const uint8_t *payload, size_t count);
 
-/* Writes an ACK to the panel: the code, the sender's MAC and its session, low byte first. */
+/* Writes an ACK to the panel: the code, the sender's MAC and its session. */
 size_t wire_ack(uint8_t *frame, struct sender from, uint64_t mac, uint64_t session);
+
+/* Eight bytes as a number, and a number as eight bytes, low byte first: MACs and sessions. */
+uint64_t wire_word(const uint8_t *bytes);
+void wire_put_word(uint8_t *bytes, uint64_t word);
 
 /* Whether these bytes are a good frame. */
 bool wire_good(const uint8_t *frame, size_t count);

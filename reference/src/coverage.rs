@@ -2,13 +2,16 @@
 //! and disturbances, each as it was answered.
 
 mod cases;
+mod discoveries;
 mod required;
 
+use required::LAST_REFUSAL;
 pub use required::POOL_SIZES;
 
 use crate::counts::Counts;
 use crate::line::{Kind, Line};
 use crate::panel::Panel;
+use crate::state::Phase;
 use cases::head;
 
 #[derive(Clone, Debug, Default)]
@@ -18,6 +21,8 @@ pub struct Coverage {
     cases: Counts,
     disturbances: Counts,
     dropped: Vec<u64>,
+    /// The wait in which a frame was refused for want of room.
+    short: Option<Phase>,
     lines: u64,
     steps: u64,
     bytes: u64,
@@ -47,11 +52,25 @@ impl Coverage {
         if line.kind != Kind::Plain {
             self.disturbances.count(cases::disturbance(before, line, &head));
         }
-        self.note_returns(before, &line.text, &head);
+        self.note_returns(before, &line.text, &head, after);
+        self.note_room(before, &head);
+    }
+
+    /// Sees a frame of a discovery taken after one was refused for its room.
+    fn note_room(&mut self, before: &Panel, head: &str) {
+        let phase = &before.coordinator.phase;
+        if self.short.as_ref() == Some(phase) {
+            if let Some(case) = discoveries::room_came(before, head) {
+                self.cases.count(case);
+            }
+        }
+        if head == "refuse 11" && phase.discovers() {
+            self.short = Some(phase.clone());
+        }
     }
 
     /// Keeps the MACs dropped since the setup and sees them join again.
-    fn note_returns(&mut self, before: &Panel, line: &str, head: &str) {
+    fn note_returns(&mut self, before: &Panel, line: &str, head: &str, after: &Panel) {
         let mac = line.split(' ').nth(2).and_then(|word| word.parse().ok());
         match (head, mac, before.coordinator.phase.awaited()) {
             ("ready", _, _) => self.dropped.clear(),
@@ -59,6 +78,13 @@ impl Coverage {
             ("rest joined", Some(mac), _) if self.dropped.contains(&mac) => {
                 self.dropped.retain(|&other| other != mac);
                 self.cases.count("a board came back after it was dropped");
+            }
+            ("transmit joined", _, Some((board, _))) => {
+                let mac = after.record(board).mac;
+                if self.dropped.contains(&mac) {
+                    self.dropped.retain(|&other| other != mac);
+                    self.cases.count("a dropped board was discovered");
+                }
             }
             _ => (),
         }
@@ -79,7 +105,7 @@ impl Coverage {
         self.lines
     }
 
-    /// The lines that played a step: join, turn, frame or quiet.
+    /// The lines that played a step: join, discover, turn, frame or quiet.
     pub fn steps(&self) -> u64 {
         self.steps
     }
@@ -104,7 +130,7 @@ impl Coverage {
         let mut text = format!("scripts: {lines} lines, {steps} of them steps, {bytes} bytes\n");
         text.push_str(&self.answers.section("answers"));
         text.push_str("\nrefusals\n");
-        for number in 1..=22 {
+        for number in 1..=LAST_REFUSAL {
             let name = format!("refuse {number}");
             text.push_str(&format!("{:8}  {name}\n", self.refusals.of(&name)));
         }

@@ -2,6 +2,7 @@
 //! so it knows what each line meets and can answer as the boards would.
 
 mod boards;
+mod discoveries;
 mod faults;
 mod joins;
 mod mishaps;
@@ -102,7 +103,10 @@ impl Generator<'_> {
     fn remember_dropped(&mut self, before: &Panel) {
         if let Some((board, _)) = before.coordinator.phase.awaited() {
             let (old, new) = (before.record(board), &self.player.panel.records[board - 1]);
-            if !new.listed() && self.player.panel.coordinator.pool == before.coordinator.pool {
+            if old.listed()
+                && !new.listed()
+                && self.player.panel.coordinator.pool == before.coordinator.pool
+            {
                 self.away.push((old.node_type, old.mac));
                 self.habits.insert(old.mac, Habit::Steady);
             }
@@ -112,7 +116,15 @@ impl Generator<'_> {
     /// Before a first setup: every step gets 22.
     fn opening(&mut self, lines: usize) {
         self.left = lines;
-        let fixed = ["# before a setup", "table", "join 5 7 9", "turn 300", "quiet", "frame 300"];
+        let fixed = [
+            "# before a setup",
+            "table",
+            "join 5 7 9",
+            "discover 300",
+            "turn 300",
+            "quiet",
+            "frame 300",
+        ];
         for line in fixed {
             self.emit(Line::plain(line));
         }
@@ -133,6 +145,9 @@ impl Generator<'_> {
         if self.rng.chance(50) {
             let line = self.refused_setup();
             self.emit(line);
+        }
+        for _ in 0..self.rng.below(4) {
+            self.abandoned_discovery(k);
         }
         let line = self.setup_line(k);
         self.emit(line);
@@ -155,7 +170,11 @@ impl Generator<'_> {
     }
 
     fn full(&self) -> bool {
-        self.panel().listed().count() == self.panel().coordinator.pool.len()
+        self.free() == 0
+    }
+
+    fn free(&self) -> usize {
+        self.panel().coordinator.pool.len() - self.panel().listed().count()
     }
 
     fn list_owed(&self) -> bool {
@@ -174,6 +193,12 @@ impl Generator<'_> {
         let percent = self.mishap_percent();
         let wrong = self.rng.chance(percent);
         match self.panel().coordinator.phase.clone() {
+            Phase::Waiting { board, exchange } if exchange.discovers() && wrong => {
+                self.discovery_mishap(board, exchange)
+            }
+            Phase::Waiting { board, exchange } if exchange.discovers() => {
+                self.discovery_line(board, exchange)
+            }
             Phase::Waiting { board, exchange } if wrong => self.wait_mishap(board, exchange),
             Phase::Waiting { board, exchange } => self.habitual(board, exchange),
             _ if wrong => self.idle_mishap(),
@@ -191,6 +216,8 @@ impl Generator<'_> {
             Mode::Storm => 55,
         };
         match &self.panel().coordinator.phase {
+            phase if phase.discovers() && self.mode == Mode::Calm => 40,
+            phase if phase.discovers() => 65,
             Phase::Waiting { exchange: Exchange::List, .. } => common / 2,
             Phase::Waiting { exchange: Exchange::Offer, .. } | Phase::Idle => common,
             _ => 45,
@@ -227,7 +254,7 @@ mod tests {
     #[test]
     fn every_answer_that_can_be_given_is_reached() {
         let mut whole = Coverage::default();
-        for seed in 1..=8 {
+        for seed in 1..=20 {
             let (text, coverage) = script(seed, 16000);
             assert!(text.len() < crate::script::SCRIPT_LIMIT);
             assert_eq!(coverage.bytes(), text.len() as u64);

@@ -1,10 +1,18 @@
-//! The coordinator's steps: join, turn, frame and quiet, and the setup that
-//! makes a fresh start (01, "Steps").
+//! The coordinator's steps: join, discover, turn, frame and quiet, and the
+//! setup that makes a fresh start (01, "Steps"; C-11). What a discovery does in
+//! them stands in a file of its own.
+
+mod discovery;
+
+pub use discovery::{
+    ADDRESS_LENGTH, DISCOVERED_LENGTH, IDENTIFIED_LENGTH, TYPE_ADDRESS, TYPE_ADDRESSED,
+    TYPE_DISCOVER, TYPE_DISCOVERED, TYPE_IDENTIFIED, TYPE_IDENTIFY,
+};
 
 use crate::frame::{self, Frame, COORDINATOR, COORDINATOR_TYPE};
 use crate::refusal::{refuse_if, Refusal};
 use crate::routing;
-use crate::state::{self, Coordinator, Exchange, Message, Phase, Record, RECORDS};
+use crate::state::{self, Coordinator, Exchange, Identity, Message, Phase, Record, RECORDS};
 
 /// 003, 6.1: message type of the R2R and of its ACK.
 pub const TYPE_R2R: u8 = 0x00;
@@ -21,6 +29,8 @@ pub const PACKET_DATAFLOW: u8 = 0x80;
 pub const PACKET_PLAIN: u8 = 0x00;
 /// A response's type is its request's and this (01, "Frame").
 pub const RESPONSE: u8 = 128;
+/// 003, 6.6: the address of a board that has none, and of all boards.
+pub const UNADDRESSED: u8 = 0;
 
 /// What a setup is given (01, "Boards and positions").
 #[derive(Clone, Copy, Debug)]
@@ -99,6 +109,7 @@ impl Panel {
             phase: Phase::Idle,
             last_offered: 0,
             held: false,
+            started: false,
         };
         Ok(settings.pool.len())
     }
@@ -106,34 +117,43 @@ impl Panel {
     /// Join: 22, then 12 to 17.
     pub fn join(&mut self, node_type: u8, mac: u64, session: u64) -> Answer {
         self.check_fit()?;
-        refuse_if(!state::type_fits(node_type), Refusal::BadType)?;
-        refuse_if(!state::mac_fits(mac), Refusal::BadMac)?;
-        refuse_if(self.busy(), Refusal::Busy)?;
-        refuse_if(self.coordinator.held, Refusal::Held)?;
-        let position = match self.position_of(mac) {
-            Some(position) => self.come_back(position, session),
-            None => self.list_new(node_type, mac, session)?,
-        };
-        self.owe_to_all();
-        self.coordinator.held = true;
+        let board = Identity { node_type, mac, session };
+        let position = self.place_for(&board)?;
+        self.admit(position, &board);
         Ok(Outcome { joined: position, ..Outcome::rest() })
     }
 
-    /// A listed MAC: session replaced, misses 0, the type on record stays.
-    fn come_back(&mut self, position: usize, session: u64) -> usize {
-        let record = self.record_mut(position);
-        record.session = session;
-        record.misses = 0;
-        position
+    /// 12 to 17: the position that a join of this board takes, its own where
+    /// the MAC is listed, else the lowest free one.
+    fn place_for(&self, board: &Identity) -> Result<usize, Refusal> {
+        refuse_if(!state::type_fits(board.node_type), Refusal::BadType)?;
+        refuse_if(!state::mac_fits(board.mac), Refusal::BadMac)?;
+        refuse_if(self.busy(), Refusal::Busy)?;
+        refuse_if(self.coordinator.held, Refusal::Held)?;
+        match self.position_of(board.mac) {
+            Some(position) => Ok(position),
+            None => self.free_position(),
+        }
     }
 
-    /// A new MAC: the lowest free position, freed ones included (16, 17).
-    fn list_new(&mut self, node_type: u8, mac: u64, session: u64) -> Result<usize, Refusal> {
+    /// 16, 17: the lowest free position, freed ones included.
+    fn free_position(&self) -> Result<usize, Refusal> {
         let free = self.types().iter().position(|&kind| kind == 0);
         let position = free.ok_or(Refusal::Full)? + 1;
         refuse_if(self.address_clash(position), Refusal::AddressClash)?;
-        *self.record_mut(position) = Record { node_type, mac, session, misses: 0, owed: false };
         Ok(position)
+    }
+
+    /// The board is listed there, anew or again; the list is owed to all, and
+    /// further joins are held.
+    fn admit(&mut self, position: usize, board: &Identity) {
+        let Identity { node_type, mac, session } = *board;
+        let record = self.record_mut(position);
+        // a listed MAC: session replaced, misses 0, the type on record stays
+        let node_type = if record.listed() { record.node_type } else { node_type };
+        *record = Record { node_type, mac, session, misses: 0, owed: true };
+        self.owe_to_all();
+        self.coordinator.held = true;
     }
 
     /// 17: a listed board has the chosen position's address. With a strictly
@@ -143,22 +163,31 @@ impl Panel {
         self.listed().any(|position| self.address(position) == address)
     }
 
-    /// 14: a wait, or a forward, return or list that is due.
+    /// 14: a wait, a discovery, or a forward, return or list that is due.
     fn busy(&self) -> bool {
         self.coordinator.phase != Phase::Idle || self.records.iter().any(|record| record.owed)
     }
 
-    /// Turn: 22, 18, 19, 11; else the next transmission is written.
+    /// Turn: 22, 18, 19, 11; else the next transmission is written. A discovery
+    /// goes on though nobody is listed.
     pub fn turn(&mut self, out: &mut [u8]) -> Answer {
         self.check_fit()?;
-        refuse_if(self.coordinator.phase.awaited().is_some(), Refusal::AwaitingReply)?;
-        refuse_if(self.listed().next().is_none(), Refusal::NobodyListed)?;
+        let phase = &self.coordinator.phase;
+        refuse_if(phase.awaited().is_some(), Refusal::AwaitingReply)?;
+        let nobody = self.listed().next().is_none();
+        refuse_if(nobody && !phase.discovers(), Refusal::NobodyListed)?;
         let (board, exchange, written) = self.transmit_next(out)?;
-        self.coordinator.phase = Phase::Waiting { board, exchange };
-        Ok(Outcome::new(Action::Wait { board, exchange }, written))
+        Ok(self.wait(board, exchange, written))
     }
 
-    /// First a return, else a forward, else a list owed, else an offer.
+    /// From now on the panel waits.
+    fn wait(&mut self, board: usize, exchange: Exchange, written: usize) -> Outcome {
+        self.coordinator.phase = Phase::Waiting { board, exchange };
+        Outcome::new(Action::Wait { board, exchange }, written)
+    }
+
+    /// First a return, else a forward, else what a discovery has due, else a
+    /// list owed, else an offer.
     fn transmit_next(&mut self, out: &mut [u8]) -> Result<(usize, Exchange, usize), Refusal> {
         match &self.coordinator.phase {
             Phase::ReturnDue { to, response } => {
@@ -172,6 +201,8 @@ impl Panel {
                 let exchange = Exchange::Forward { requester, request_type, acked: false };
                 Ok((*to, exchange, written))
             }
+            Phase::IdentifyDue { at, found } => self.transmit_identify(*at, *found, out),
+            Phase::AssignDue { at, found } => self.transmit_assign(*at, *found, out),
             _ => self.transmit_own(out),
         }
     }
@@ -197,13 +228,15 @@ impl Panel {
         Ok((board, Exchange::List, written))
     }
 
-    /// 003, 6.1: the R2R; an offer ends the hold on joins.
+    /// 003, 6.1: the R2R; an offer ends the hold on joins, and a discovery may
+    /// be started again.
     fn transmit_offer(&mut self, out: &mut [u8]) -> Result<(usize, Exchange, usize), Refusal> {
         let board = self.next_offered();
         let payload = self.r2r_payload(CODE_OFFER);
         let written = frame::write(&self.own(board, TYPE_R2R, PACKET_DATAFLOW, &payload), out)?;
         self.coordinator.last_offered = board;
         self.coordinator.held = false;
+        self.coordinator.started = false;
         Ok((board, Exchange::Offer, written))
     }
 
@@ -214,12 +247,16 @@ impl Panel {
         after.or_else(|| self.listed().next()).unwrap_or(0)
     }
 
-    /// Frame: 22, 1 to 9, then 11.
+    /// Frame: 22, 1 to 5, 23, 6 to 9, then 11.
     pub fn frame(&mut self, bytes: &[u8], out: &mut [u8]) -> Answer {
         self.check_fit()?;
         let frame = frame::read(bytes)?;
         refuse_if(frame.destination != COORDINATOR, Refusal::NotForUs)?;
+        refuse_if(self.out_of_place(frame.message_type), Refusal::NotDiscovering)?;
         let (board, exchange) = self.awaited(frame.source)?;
+        if exchange.discovers() {
+            return self.discovery_frame(board, exchange, &frame, out);
+        }
         let accepted = self.judge(board, exchange, &frame)?;
         let written = match accepted {
             Accepted::Ack { .. } => 0,
@@ -229,10 +266,15 @@ impl Panel {
         Ok(Outcome::new(self.accept(board, exchange, accepted, &frame), written))
     }
 
-    /// 6: the wait whose board has this source address.
+    /// 6: the wait in which a frame from this address is awaited.
     fn awaited(&self, source: u8) -> Result<(usize, Exchange), Refusal> {
-        let awaited = self.coordinator.phase.awaited();
-        awaited.filter(|&(board, _)| self.address(board) == source).ok_or(Refusal::NotAwaited)
+        let (board, exchange) = self.coordinator.phase.awaited().ok_or(Refusal::NotAwaited)?;
+        let awaited = match exchange {
+            Exchange::Search => UNADDRESSED,
+            _ => self.address(board),
+        };
+        refuse_if(source != awaited, Refusal::NotAwaited)?;
+        Ok((board, exchange))
     }
 
     /// 7 to 9: what the frame is in this wait.
@@ -264,12 +306,9 @@ impl Panel {
 
     /// 003, table 49: 17 bytes, code 6, the record's MAC, any session.
     fn judge_ack(&self, board: usize, frame: &Frame<'_>) -> Result<Accepted, Refusal> {
-        let payload = frame.payload;
-        let form = payload.len() == R2R_LENGTH && payload[0] == CODE_ACK;
-        refuse_if(!form, Refusal::UnexpectedType)?;
-        let mac = low_byte_first(&payload[1..9]);
+        let (mac, session) = ack_of(frame.payload).ok_or(Refusal::UnexpectedType)?;
         refuse_if(mac != self.record(board).mac, Refusal::UnexpectedType)?;
-        Ok(Accepted::Ack { session: low_byte_first(&payload[9..17]) })
+        Ok(Accepted::Ack { session })
     }
 
     /// The ACK due to the sender of a request or response.
@@ -335,6 +374,9 @@ impl Panel {
     pub fn quiet(&mut self) -> Answer {
         self.check_fit()?;
         let (board, exchange) = self.coordinator.phase.awaited().ok_or(Refusal::NotWaiting)?;
+        if exchange.discovers() {
+            return Ok(self.discovery_quiet(board, exchange));
+        }
         self.coordinator.phase = Phase::Idle;
         let heard = matches!(exchange, Exchange::Forward { acked: true, .. });
         let dropped = if heard { 0 } else { self.miss(board) };
@@ -388,9 +430,13 @@ impl Panel {
         self.listed().find(|&position| self.record(position).mac == mac)
     }
 
-    /// A board's index: the number of lower listed positions of its type.
+    /// A board's index: the number of lower listed positions of its type; 0
+    /// where nobody is listed.
     pub fn index(&self, position: usize) -> u8 {
         let kind = self.record(position).node_type;
+        if kind == 0 {
+            return 0;
+        }
         self.records[..position - 1].iter().filter(|record| record.node_type == kind).count() as u8
     }
 
@@ -450,6 +496,12 @@ impl Panel {
             payload: &message.payload,
         }
     }
+}
+
+/// 003, table 49: the MAC and the session of an ACK of that form.
+fn ack_of(payload: &[u8]) -> Option<(u64, u64)> {
+    let form = payload.len() == R2R_LENGTH && payload[0] == CODE_ACK;
+    form.then(|| (low_byte_first(&payload[1..9]), low_byte_first(&payload[9..17])))
 }
 
 fn low_byte_first(bytes: &[u8]) -> u64 {

@@ -24,6 +24,7 @@ pub enum Refusal {
     NotWaiting = 20,
     BadPool = 21,
     StateUnfit = 22,
+    NotDiscovering = 23,
 }
 
 impl Refusal {

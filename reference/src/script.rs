@@ -14,6 +14,7 @@ pub const FRAME_LIMIT: usize = 1024;
 enum Command {
     Setup { subnet: u8, internal: u8, mac: u64, session: u64, pool: Vec<u8> },
     Join { node_type: u8, mac: u64, session: u64 },
+    Discover { room: usize },
     Turn { room: usize },
     Frame { room: usize, bytes: Vec<u8> },
     Quiet,
@@ -51,6 +52,10 @@ impl Player {
             }
             Command::Join { node_type, mac, session } => {
                 tell(self.panel.join(node_type, mac, session), &[])
+            }
+            Command::Discover { room } => {
+                let mut out = vec![0; room];
+                tell(self.panel.discover(&mut out), &out)
             }
             Command::Turn { room } => {
                 let mut out = vec![0; room];
@@ -112,6 +117,9 @@ fn tell_outcome(outcome: &Outcome, written: &[u8]) -> String {
             format!("wait {board} {} {}", exchange.name(), counted(written))
         }
         Action::Deliver => format!("deliver {}", counted(written)),
+        Action::Transmit if outcome.joined != 0 => {
+            format!("transmit {} joined {}", counted(written), outcome.joined)
+        }
         Action::Transmit => format!("transmit {}", counted(written)),
         Action::Rest if outcome.joined != 0 => format!("rest joined {}", outcome.joined),
         Action::Rest if outcome.dropped != 0 => format!("rest dropped {}", outcome.dropped),
@@ -153,6 +161,7 @@ fn parse(line: &str) -> Option<Command> {
             mac: number(mac)?,
             session: number(session)?,
         }),
+        ["discover", size] => Some(Command::Discover { room: room(size)? }),
         ["turn", size] => Some(Command::Turn { room: room(size)? }),
         ["frame", size] => Some(Command::Frame { room: room(size)?, bytes: Vec::new() }),
         ["frame", size, word] => Some(Command::Frame { room: room(size)?, bytes: pairs(word)? }),
@@ -206,9 +215,10 @@ mod tests {
 
     #[test]
     fn before_a_setup_steps_answer_22() {
-        let script = "join 1 1 1\nturn 64\nframe 64\nquiet\ntable\n";
-        let expected = ["refuse 22", "refuse 22", "refuse 22", "refuse 22", "listed 0"];
-        assert_eq!(answers(script), expected);
+        let script = "join 1 1 1\ndiscover 64\nturn 64\nframe 64\nquiet\ntable\n";
+        let answers = answers(script);
+        assert_eq!(answers[..5], ["refuse 22"; 5]);
+        assert_eq!(answers[5], "listed 0");
     }
 
     #[test]
@@ -245,6 +255,10 @@ mod tests {
             " turn 5",
             "turn 5 ",
             "Turn 5",
+            "discover",
+            "discover 1025",
+            "discover 5 5",
+            "Discover 5",
             "join 256 1 1",
             "join 1 18446744073709551616 1",
             "join 1 1 18446744073709551616",
@@ -273,7 +287,14 @@ mod tests {
     #[test]
     fn numbers_that_fit_are_taken() {
         let most = format!("frame 1024 {}", "aA".repeat(1024));
-        for line in ["turn 1024", "turn 0", "turn 007", "join 255 0 18446744073709551615", &most] {
+        for line in [
+            "turn 1024",
+            "turn 0",
+            "turn 007",
+            "discover 1024",
+            "join 255 0 18446744073709551615",
+            &most,
+        ] {
             assert_eq!(answers(line), ["refuse 22"], "{line}");
         }
     }

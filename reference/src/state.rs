@@ -48,13 +48,26 @@ impl Message {
     }
 }
 
-/// The kind of exchange in which the panel waits for a board.
+/// Who a board is: what a join tells of it, and what it tells of itself when it
+/// is discovered or identified (003, tables 58 and 62).
+#[derive(Clone, Copy, Debug, Default, PartialEq, Eq)]
+pub struct Identity {
+    pub node_type: u8,
+    pub mac: u64,
+    pub session: u64,
+}
+
+/// The kind of exchange in which the panel waits for a board. The last three
+/// are the waits of a discovery; they keep whom it found as long as they need.
 #[derive(Clone, Copy, Debug, PartialEq, Eq)]
 pub enum Exchange {
     Offer,
     List,
     Forward { requester: usize, request_type: u8, acked: bool },
     Return,
+    Search,
+    Identify { found: Identity, acked: bool },
+    Assign { found: Identity },
 }
 
 impl Exchange {
@@ -64,11 +77,20 @@ impl Exchange {
             Exchange::List => "list",
             Exchange::Forward { .. } => "forward",
             Exchange::Return => "return",
+            Exchange::Search => "search",
+            Exchange::Identify { .. } => "identify",
+            Exchange::Assign { .. } => "assign",
         }
+    }
+
+    /// Whether this is a wait of a discovery.
+    pub fn discovers(&self) -> bool {
+        matches!(self, Exchange::Search | Exchange::Identify { .. } | Exchange::Assign { .. })
     }
 }
 
-/// At most one wait, forward or return at a time (01, "Fit").
+/// At most one wait, forward or return at a time (01, "Fit"), and as little of
+/// a discovery: its two dues stand here beside those of a request.
 #[derive(Clone, Debug, Default, PartialEq, Eq)]
 pub enum Phase {
     #[default]
@@ -82,6 +104,14 @@ pub enum Phase {
         to: usize,
         response: Message,
     },
+    IdentifyDue {
+        at: usize,
+        found: Identity,
+    },
+    AssignDue {
+        at: usize,
+        found: Identity,
+    },
     Waiting {
         board: usize,
         exchange: Exchange,
@@ -89,6 +119,15 @@ pub enum Phase {
 }
 
 impl Phase {
+    /// Whether a discovery runs: one of its waits or dues.
+    pub fn discovers(&self) -> bool {
+        match self {
+            Phase::IdentifyDue { .. } | Phase::AssignDue { .. } => true,
+            Phase::Waiting { exchange, .. } => exchange.discovers(),
+            _ => false,
+        }
+    }
+
     /// The board awaited and the exchange it is awaited in, if there is a wait.
     pub fn awaited(&self) -> Option<(usize, Exchange)> {
         match *self {
@@ -109,6 +148,8 @@ pub struct Coordinator {
     pub phase: Phase,
     pub last_offered: usize,
     pub held: bool,
+    /// A discovery was started since the last offer.
+    pub started: bool,
 }
 
 /// 01: k from 1 to 40, strictly rising, each 1 to 254.
@@ -161,25 +202,38 @@ fn response_fits(response: &Message) -> bool {
     response.message_type > 128 && response.payload.len() <= MAX_PAYLOAD
 }
 
-fn exchange_fits(records: &[Record], exchange: &Exchange) -> bool {
+/// What was discovered is within the ranges of a join.
+fn identity_fits(found: &Identity) -> bool {
+    type_fits(found.node_type) && mac_fits(found.mac)
+}
+
+/// In a discovery the position at stake need not be listed.
+fn wait_fits(records: &[Record], k: usize, board: usize, exchange: &Exchange) -> bool {
     match exchange {
         Exchange::Forward { requester, request_type, .. } => {
-            is_listed(records, *requester) && (1..=127).contains(request_type)
+            is_listed(records, board)
+                && is_listed(records, *requester)
+                && (1..=127).contains(request_type)
         }
-        _ => true,
+        Exchange::Search => (1..=k).contains(&board),
+        Exchange::Identify { found, .. } | Exchange::Assign { found } => {
+            (1..=k).contains(&board) && identity_fits(found)
+        }
+        _ => is_listed(records, board),
     }
 }
 
-fn phase_fits(records: &[Record], phase: &Phase) -> bool {
+fn phase_fits(records: &[Record], k: usize, phase: &Phase) -> bool {
     match phase {
         Phase::Idle => true,
         Phase::ForwardDue { to, requester, request } => {
             is_listed(records, *to) && is_listed(records, *requester) && request_fits(request)
         }
         Phase::ReturnDue { to, response } => is_listed(records, *to) && response_fits(response),
-        Phase::Waiting { board, exchange } => {
-            is_listed(records, *board) && exchange_fits(records, exchange)
+        Phase::IdentifyDue { at, found } | Phase::AssignDue { at, found } => {
+            (1..=k).contains(at) && identity_fits(found)
         }
+        Phase::Waiting { board, exchange } => wait_fits(records, k, *board, exchange),
     }
 }
 
@@ -189,7 +243,7 @@ pub fn fit(records: &[Record], coordinator: &Coordinator) -> bool {
     pool_fits(&coordinator.pool)
         && mac_fits(coordinator.mac)
         && records_fit(records, k)
-        && phase_fits(records, &coordinator.phase)
+        && phase_fits(records, k, &coordinator.phase)
         && (!coordinator.held || records.iter().any(Record::listed))
         && coordinator.last_offered <= k
 }
@@ -292,5 +346,41 @@ mod tests {
         assert!(forward(3, 127));
         assert!(!forward(2, 127));
         assert!(!forward(3, 0));
+    }
+
+    /// The phases that keep whom a discovery found.
+    fn with_found(at: usize, found: Identity) -> [Phase; 5] {
+        let waiting = |exchange| Phase::Waiting { board: at, exchange };
+        [
+            Phase::IdentifyDue { at, found },
+            Phase::AssignDue { at, found },
+            waiting(Exchange::Identify { found, acked: false }),
+            waiting(Exchange::Identify { found, acked: true }),
+            waiting(Exchange::Assign { found }),
+        ]
+    }
+
+    #[test]
+    fn a_discovery_names_a_position_listed_or_not_and_whom_it_found() {
+        let found = Identity { node_type: 9, mac: 11, session: 0 };
+        for at in 0..=4 {
+            let fits = (1..=3).contains(&at);
+            assert_eq!(in_phase(Phase::Waiting { board: at, exchange: Exchange::Search }), fits);
+            for phase in with_found(at, found) {
+                assert!(phase.discovers());
+                assert_eq!(in_phase(phase), fits);
+            }
+        }
+        let misfits = [
+            Identity { node_type: 0, ..found },
+            Identity { node_type: 165, ..found },
+            Identity { mac: 0, ..found },
+            Identity { mac: MAX_MAC + 1, ..found },
+        ];
+        for misfit in misfits {
+            assert!(with_found(2, misfit).into_iter().all(|phase| !in_phase(phase)));
+        }
+        assert!(!Phase::Idle.discovers());
+        assert!(!Phase::Waiting { board: 1, exchange: Exchange::Offer }.discovers());
     }
 }

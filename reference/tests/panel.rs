@@ -1,20 +1,14 @@
 //! The rule book's printed series, each refusal number that a step gives, and
 //! the errors that look reasonable (01).
 
+mod common;
+
+use common::{ack_payload, bytes_of, ready, refused, refused_frame, rest, transmit, turn};
+use common::{MAC, SESSION};
 use reference::frame::{self, Frame};
-use reference::panel::{Action, Answer, Outcome, Panel, Settings};
+use reference::panel::{Action, Answer, Panel, Settings};
 use reference::refusal::Refusal;
 use reference::state::{Exchange, Phase};
-
-const MAC: u64 = 0x0011_2233_4455_6677;
-const SESSION: u64 = 0x8877_6655_4433_2211;
-
-fn ready(pool: &[u8]) -> Panel {
-    let mut panel = Panel::default();
-    let settings = Settings { subnet: 3, internal: 1, mac: MAC, session: SESSION, pool };
-    assert_eq!(panel.setup(&settings), Ok(pool.len()));
-    panel
-}
 
 /// A panel whose boards have joined, were sent their lists and echoed them.
 fn with_boards(pool: &[u8], types: &[u8]) -> Panel {
@@ -33,15 +27,6 @@ fn with_boards(pool: &[u8], types: &[u8]) -> Panel {
     panel
 }
 
-fn turn(panel: &mut Panel) -> (usize, Exchange, Vec<u8>) {
-    let mut out = [0u8; 300];
-    let outcome = panel.turn(&mut out).unwrap();
-    match outcome.action {
-        Action::Wait { board, exchange } => (board, exchange, out[..outcome.written].to_vec()),
-        other => panic!("{other:?}"),
-    }
-}
-
 fn awaited(panel: &Panel) -> (usize, Exchange) {
     match panel.coordinator.phase {
         Phase::Waiting { board, exchange } => (board, exchange),
@@ -49,19 +34,8 @@ fn awaited(panel: &Panel) -> (usize, Exchange) {
     }
 }
 
-fn bytes_of(frame: &Frame<'_>) -> Vec<u8> {
-    let mut out = vec![0; 300];
-    let count = frame::write(frame, &mut out).unwrap();
-    out.truncate(count);
-    out
-}
-
 fn give(panel: &mut Panel, frame: &Frame<'_>) -> Answer {
     panel.frame(&bytes_of(frame), &mut [0; 29])
-}
-
-fn ack_payload(mac: u64, session: u64) -> Vec<u8> {
-    [&[6u8][..], &mac.to_le_bytes(), &session.to_le_bytes()].concat()
 }
 
 /// A frame from the awaited board.
@@ -98,26 +72,6 @@ fn request(panel: &mut Panel, kind: u8, method: u8, parameter1: u8) -> Answer {
         ..from_awaited(panel, kind, &[1, 2])
     };
     give(panel, &frame)
-}
-
-/// The call is refused with this number and changes neither panel nor bytes.
-fn refused(panel: &mut Panel, refusal: Refusal, step: impl Fn(&mut Panel, &mut [u8]) -> Answer) {
-    let before = panel.clone();
-    let mut out = [0xEE; 28];
-    assert_eq!(step(panel, &mut out), Err(refusal));
-    assert_eq!((panel.clone(), out), (before, [0xEE; 28]));
-}
-
-fn refused_frame(panel: &mut Panel, refusal: Refusal, bytes: &[u8]) {
-    refused(panel, refusal, |panel, out| panel.frame(bytes, out));
-}
-
-fn rest() -> Answer {
-    Ok(Outcome { action: Action::Rest, written: 0, joined: 0, dropped: 0 })
-}
-
-fn transmit(count: usize) -> Answer {
-    Ok(Outcome { action: Action::Transmit, written: count, joined: 0, dropped: 0 })
 }
 
 // ---- printed cases ----------------------------------------------------

@@ -1,17 +1,21 @@
-//! Demand 3, watched from outside: the model below sees only the lines of a
-//! generated script and their answers.
+//! Demand 3 and what C-11 adds to it, watched from outside: the model below sees
+//! only the lines of a generated script and their answers.
 
 use reference::generator;
-use reference::script::Player;
+use reference::script::{self, Player};
 
 /// One listed position as seen from outside.
 #[derive(Clone, Copy, Default)]
 struct Seen {
     listed: bool,
+    mac: u64,
     misses: usize,
     offers: usize,
     steps: usize,
 }
+
+/// C-11: an exchange has at most six accepted steps.
+const LONGEST_EXCHANGE: usize = 6;
 
 #[derive(Default)]
 struct Watch {
@@ -20,6 +24,11 @@ struct Watch {
     awaited: usize,
     heard: bool,
     drops: usize,
+    /// The accepted steps of the discovery that runs; 0 if none does.
+    exchange: usize,
+    identifies: bool,
+    started: bool,
+    found: usize,
 }
 
 impl Watch {
@@ -30,7 +39,9 @@ impl Watch {
         match (step, &words[..]) {
             (_, ["refuse" | "bad", ..]) | ("table", _) => return,
             ("setup", ["ready", k]) => return self.start(k.parse().unwrap()),
-            ("join", ["rest", "joined", at]) => self.joined(at.parse().unwrap()),
+            ("discover", ["wait", _, "search", ..]) => self.discovery(),
+            (step, _) if self.exchange > 0 => self.in_exchange(step, line, &words),
+            ("join", ["rest", "joined", at]) => self.joined(at, word(line, 2).parse().unwrap()),
             ("turn", ["wait", at, kind, ..]) => self.sent(at.parse().unwrap(), kind),
             ("frame", _) => self.accepted(),
             ("quiet", ["rest", "dropped", at]) => self.quiet(at.parse().unwrap()),
@@ -41,19 +52,76 @@ impl Watch {
     }
 
     fn start(&mut self, k: usize) {
-        *self = Watch { k, boards: vec![Seen::default(); k + 1], ..Watch::default() };
+        let boards = vec![Seen::default(); k + 1];
+        *self = Watch { k, boards, found: self.found, ..Watch::default() };
     }
 
-    fn joined(&mut self, at: usize) {
-        let board = &mut self.boards[at];
+    fn joined(&mut self, at: &str, mac: u64) {
+        let board = &mut self.boards[at.parse::<usize>().unwrap()];
         let old = if board.listed { *board } else { Seen::default() };
-        *board = Seen { listed: true, misses: 0, ..old };
+        assert!(!board.listed || board.mac == mac);
+        *board = Seen { listed: true, mac, misses: 0, ..old };
+    }
+
+    /// While someone is listed, one at most is started between two offers.
+    fn discovery(&mut self) {
+        assert!(self.exchange == 0);
+        assert!(!self.started || self.boards.iter().all(|board| !board.listed));
+        (self.started, self.exchange, self.identifies) = (true, 1, false);
+    }
+
+    /// Nobody misses in it, no other join is accepted, and it ends with one
+    /// join or with none.
+    fn in_exchange(&mut self, step: &str, line: &str, answer: &[&str]) {
+        self.exchange += 1;
+        assert!(self.exchange <= LONGEST_EXCHANGE);
+        match (step, answer) {
+            ("turn", ["wait", at, kind @ ("identify" | "assign"), ..]) => {
+                (self.awaited, self.identifies) = (at.parse().unwrap(), *kind == "identify");
+                self.heard = false;
+            }
+            ("frame", ["wait", _, "identify", "0"]) => self.identity_heard(mac_in(line)),
+            ("frame", ["rest"]) => self.exchange = self.found_exchange(line),
+            ("frame", ["transmit", _, _, "joined", at]) => {
+                self.joined(at, mac_in(line));
+                (self.exchange, self.found) = (0, self.found + 1);
+            }
+            ("frame", ["transmit", _, _]) => {
+                self.identity_heard(mac_in(line));
+                self.exchange = 0;
+            }
+            ("quiet", ["rest"]) if self.identifies && !self.heard => self.identifies = false,
+            ("quiet", ["rest"]) => self.exchange = 0,
+            _ => panic!("{line}: {answer:?}"),
+        }
+    }
+
+    /// Whether a response to a search lets the exchange go on: where its join
+    /// would be refused it has broken off.
+    fn found_exchange(&self, line: &str) -> usize {
+        let (kind, mac) = (payload(line)[0], mac_in(line));
+        let fits = kind != 0 && kind != 165 && (1..1 << 56).contains(&mac);
+        if fits {
+            self.exchange
+        } else {
+            0
+        }
+    }
+
+    /// In identify a listed board is heard by its own MAC alone.
+    fn identity_heard(&mut self, mac: u64) {
+        self.heard = true;
+        let board = &mut self.boards[self.awaited];
+        if board.listed && board.mac == mac {
+            board.misses = 0;
+        }
     }
 
     fn sent(&mut self, at: usize, kind: &str) {
         assert!(self.boards[at].listed);
         (self.awaited, self.heard) = (at, false);
         if kind == "offer" {
+            self.started = false;
             for board in &mut self.boards {
                 board.offers += 1;
             }
@@ -79,14 +147,32 @@ impl Watch {
         }
     }
 
-    /// Offered within k times (2k^2 + 2k + 8) accepted steps.
+    /// Offered within k times (2k^2 + 2k + 14) accepted steps.
     fn count_step(&mut self) {
-        let limit = self.k * (2 * self.k * self.k + 2 * self.k + 8);
+        let limit = self.k * (2 * self.k * self.k + 2 * self.k + 14);
         for board in self.boards.iter_mut().filter(|board| board.listed) {
             board.steps += 1;
             assert!(board.steps <= limit);
         }
     }
+}
+
+fn word(line: &str, place: usize) -> &str {
+    line.split(' ').nth(place).unwrap_or("")
+}
+
+/// The payload of the frame in a line.
+fn payload(line: &str) -> Vec<u8> {
+    let bytes = script::pairs(word(line, 2)).unwrap();
+    bytes[10..bytes.len() - 2].to_vec()
+}
+
+/// The MAC in an ACK or in a response of the exchange: by length behind the
+/// first byte, or the first two.
+fn mac_in(line: &str) -> u64 {
+    let payload = payload(line);
+    let at = if payload.len() == 17 { 1 } else { 2 };
+    u64::from_le_bytes(payload[at..at + 8].try_into().unwrap())
 }
 
 fn addresses_and_macs_differ(player: &Player) -> bool {
@@ -108,6 +194,6 @@ fn generated_scripts_keep_the_promise() {
                 assert!(addresses_and_macs_differ(&player));
             }
         });
-        assert!(drops > 20);
+        assert!(drops > 20 && watch.found > 20);
     }
 }

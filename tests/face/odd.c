@@ -1,72 +1,17 @@
 /*
- * Odd inputs through include/nadrelgos.h: records that are not fit, counts of records other than forty, event numbers
- * that are none, a setup over whatever stood there, changes and positions that are none. What each call answers and
- * leaves is known: records that were lent are held to it field by field, and all else byte by byte. The calls are the
- * same each time. A line is printed for each check, and the exit status is 1 where one fails.
+ * Odd inputs through include/nadrelgos.h: records that are not fit, any frames in the exchange by which a board joins
+ * (frames.c), counts of records other than forty, event numbers that are none, a setup over whatever stood there,
+ * changes and positions that are none. What each call answers and leaves is known: records that were lent are held to
+ * it field by field, and all else byte by byte. The calls are the same each time. A line is printed for each check, and
+ * the exit status is 1 where one fails.
  */
-#include "records.h"
+#include "checks.h"
+#include "frames.h"
 
-#include <stdio.h>
 #include <string.h>
-
-/* more records than are ever lent */
-enum { RECORDS = 320 };
-
-/* All that the calls may change. */
-struct lent {
-    struct nadrelgos_coordinator coordinator;
-    struct nadrelgos_node nodes[RECORDS];
-    uint8_t out[NADRELGOS_ROOM];
-};
-
-static struct lent lent, before;
-static uint8_t received[NADRELGOS_ROOM];
 
 /* the answer of a setup or a change that is taken */
 static const uint64_t rest = (uint64_t)NADRELGOS_REST << 8;
-
-/* ---- the checks and their lines */
-
-static struct {
-    const char *name;
-    unsigned long calls, wrong;
-} check;
-static bool failed;
-
-static void begin(const char *name) {
-    check.name = name;
-    check.calls = check.wrong = 0;
-}
-
-/* Holds one call of the check that is on. The first that is wrong is told. */
-static void hold(bool held, uint64_t answer) {
-    check.calls++;
-    if (held) return;
-    if (check.wrong++ == 0)
-        printf("odd: %s: call %lu is the first that is wrong, with the answer %#llx\n", check.name, check.calls,
-               (unsigned long long)answer);
-}
-
-static void end(void) {
-    printf("odd: %s: %lu calls, %lu wrong\n", check.name, check.calls, check.wrong);
-    if (check.wrong > 0) failed = true;
-}
-
-/* ---- numbers without an order, the same each time (xorshift) */
-
-static uint64_t drawn = 1;
-
-static uint64_t draw(void) {
-    drawn ^= drawn << 13;
-    drawn ^= drawn >> 7;
-    drawn ^= drawn << 17;
-    return drawn;
-}
-
-static void scatter(void *bytes, size_t count) {
-    uint8_t *at = bytes;
-    for (size_t i = 0; i < count; i++) at[i] = (uint8_t)(draw() >> 32);
-}
 
 /* ---- a change of one record, by its name */
 
@@ -81,30 +26,7 @@ static uint64_t amend(enum change change, size_t count, size_t position, uint8_t
     }
 }
 
-/* ---- what a call changed */
-
-static void keep(void) {
-    memcpy(&before, &lent, sizeof lent);
-}
-
-/* Whether the records past the `count` that were lent have each byte that they had. */
-static bool past_untouched(size_t count) {
-    return memcmp(lent.nodes + count, before.nodes + count, (RECORDS - count) * sizeof *lent.nodes) == 0;
-}
-
-/* Whether out has, too. */
-static bool others_untouched(size_t count) {
-    return past_untouched(count) && memcmp(lent.out, before.out, sizeof lent.out) == 0;
-}
-
-static bool unchanged(size_t count) {
-    return same_coordinator(&lent.coordinator, &before.coordinator) && same_nodes(lent.nodes, before.nodes, count) &&
-           others_untouched(count);
-}
-
-static void hold_refused(uint64_t answer, uint64_t refusal, size_t count) {
-    hold(answer == refusal && unchanged(count), answer);
-}
+/* ---- a step */
 
 /* A step. What a join is told is good, so that it is not refused for that; out has all the room there is need of. */
 static uint64_t step(uint8_t event, size_t count) {
@@ -117,31 +39,10 @@ static void hold_step_refused(uint8_t event, uint64_t refusal, size_t count) {
     hold_refused(step(event, count), refusal, count);
 }
 
-/* The four steps on records that are not fit. */
+/* The five steps on records that are not fit. */
 static void hold_unfit(void) {
-    for (uint8_t event = NADRELGOS_EVENT_JOIN; event <= NADRELGOS_EVENT_QUIET; event++)
+    for (uint8_t event = NADRELGOS_EVENT_JOIN; event <= NADRELGOS_EVENT_DISCOVER; event++)
         hold_step_refused(event, NADRELGOS_STATE_UNFIT, NADRELGOS_NODES);
-}
-
-/* ---- records that are fit: five addresses, boards at positions 1 to 3; all that is not lent is scattered */
-
-enum { OWN_MAC = 9, OWN_SESSION = 8, SUBNET = 3, INTERNAL = 21, BOARDS = 3, FREE = 4 };
-static const uint8_t pool[] = {16, 17, 18, 19, 20};
-
-static uint64_t set_up(size_t count) {
-    return nadrelgos_setup(&lent.coordinator, lent.nodes, count, pool, sizeof pool, SUBNET, INTERNAL, OWN_MAC,
-                           OWN_SESSION);
-}
-
-/* In a stage: board 1, and where it names another, requester 2; a message is kept as the stage needs it. */
-static void make_fit(uint8_t stage) {
-    scatter(&lent, sizeof lent);
-    set_up(NADRELGOS_NODES);
-    for (size_t i = 0; i < BOARDS; i++) lent.nodes[i] = (struct nadrelgos_node){5, 100 + i, 1, 2, 0};
-    lent.coordinator.stand = (struct nadrelgos_stand){stage, 1, 2};
-    lent.coordinator.kept.message = stage == 7 ? 131 : 3;
-    lent.coordinator.kept.method = 2;
-    lent.coordinator.kept.length = 240;
 }
 
 /* ---- records that are not fit: 22, and nothing is changed */
@@ -184,7 +85,11 @@ static const struct spoil anywhere[] = {
     SPOIL(coordinator.last, 6),
     SPOIL(coordinator.last, UINT64_MAX),
     SPOIL(coordinator.held, 2),
-    SPOIL(coordinator.stand.stage, 8),
+    SPOIL(coordinator.searched, 2),
+    SPOIL(coordinator.searched, 255),
+    SPOIL(coordinator.stand.stage, STAGES),
+    SPOIL(coordinator.stand.stage, STAGES + 1),
+    SPOIL(coordinator.stand.stage, 128),
     SPOIL(coordinator.stand.stage, 255),
     SPOIL(nodes[2].kind, 0),
     SPOIL(nodes[2].kind, 165),
@@ -222,6 +127,25 @@ static const struct spoil with_request[] = {
     SPOIL(coordinator.kept.length, 241),
 };
 
+/* where a position's address is at stake, listed or not: stages 8 to 13 */
+static const struct spoil with_stake[] = {
+    SPOIL(coordinator.stand.board, 0),
+    SPOIL(coordinator.stand.board, K + 1),
+    SPOIL(coordinator.stand.board, 41),
+    SPOIL(coordinator.stand.board, 256 + 1),
+    SPOIL(coordinator.stand.board, (UINT64_C(1) << 32) + 1),
+    SPOIL(coordinator.stand.board, UINT64_MAX),
+};
+
+/* where a board was found: stages 9 to 13 */
+static const struct spoil with_found[] = {
+    SPOIL(coordinator.found.kind, 0),
+    SPOIL(coordinator.found.kind, 165),
+    SPOIL(coordinator.found.mac, 0),
+    SPOIL(coordinator.found.mac, NADRELGOS_MAC_MAX + 1),
+    SPOIL(coordinator.found.mac, UINT64_MAX),
+};
+
 /* where a response is kept: stage 7 */
 static const struct spoil with_response[] = {
     SPOIL(coordinator.kept.message, 128),
@@ -239,11 +163,13 @@ static void spoil_each(uint8_t stage, const struct spoil *spoils, size_t count) 
 
 static void refuses_one_wrong_field(void) {
     begin("steps on records with one field wrong");
-    for (uint8_t stage = 0; stage <= 7; stage++) {
+    for (uint8_t stage = 0; stage < STAGES; stage++) {
         SPOIL_EACH(stage, anywhere);
-        if (stage >= 1) SPOIL_EACH(stage, with_board);
+        if (1 <= stage && stage < SEARCH) SPOIL_EACH(stage, with_board);
         if (stage == 3 || stage == 4 || stage == 6) SPOIL_EACH(stage, with_request);
         if (stage == 7) SPOIL_EACH(stage, with_response);
+        if (stage >= SEARCH) SPOIL_EACH(stage, with_stake);
+        if (stage > SEARCH) SPOIL_EACH(stage, with_found);
     }
     make_fit(0); /* joins held, and nobody is listed */
     lent.coordinator.held = 1;
@@ -255,8 +181,8 @@ static void refuses_one_wrong_field(void) {
 /* So that the refusals above are for the one field: without it none is 22. */
 static void takes_fit_records(void) {
     begin("steps on the same records with none wrong");
-    for (uint8_t stage = 0; stage <= 7; stage++) {
-        for (uint8_t event = NADRELGOS_EVENT_JOIN; event <= NADRELGOS_EVENT_QUIET; event++) {
+    for (uint8_t stage = 0; stage < STAGES; stage++) {
+        for (uint8_t event = NADRELGOS_EVENT_JOIN; event <= NADRELGOS_EVENT_DISCOVER; event++) {
             make_fit(stage);
             keep();
             uint64_t answer = step(event, NADRELGOS_NODES);
@@ -266,13 +192,57 @@ static void takes_fit_records(void) {
     end();
 }
 
+/* ---- what a stage has no use for is never looked at, whatever it is */
+
+/* Anything in the places for which the stage has no use: the board found, the message kept and its requester. */
+static void scatter_unused(uint8_t stage) {
+    struct nadrelgos_coordinator *c = &lent.coordinator;
+    bool message = stage == 3 || stage == 4 || stage == 6 || stage == 7;
+    if (stage <= SEARCH) scatter(&c->found, sizeof c->found);
+    if (message) return;
+    scatter(&c->kept, sizeof c->kept);
+    scatter(&c->stand.requester, sizeof c->stand.requester);
+}
+
+/* A step on fit records, and the same step where those places hold anything: it answers the same and leaves the same,
+   but for these places, where what stood there may stay. */
+static void hold_never_looked_at(uint8_t stage, uint8_t event) {
+    static struct lent plain, odd;
+    make_fit(stage);
+    keep();
+    uint64_t expected = step(event, NADRELGOS_NODES);
+    memcpy(&plain, &lent, sizeof lent);
+    memcpy(&lent, &before, sizeof lent);
+    scatter_unused(stage);
+    memcpy(&odd, &lent, sizeof lent);
+    uint64_t answer = step(event, NADRELGOS_NODES);
+
+    struct nadrelgos_coordinator *left = &lent.coordinator;
+    if (same_found(&left->found, &odd.coordinator.found)) left->found = plain.coordinator.found;
+    if (same_kept(&left->kept, &odd.coordinator.kept)) left->kept = plain.coordinator.kept;
+    if (left->stand.requester == odd.coordinator.stand.requester) left->stand = plain.coordinator.stand;
+    hold(answer == expected && same_coordinator(left, &plain.coordinator) &&
+             same_nodes(lent.nodes, plain.nodes, NADRELGOS_NODES) && memcmp(lent.out, plain.out, sizeof lent.out) == 0,
+         answer);
+}
+
+static void never_looks_at_the_rest(void) {
+    enum { ROUNDS = 50 };
+    begin("steps with anything where the stage has no use for it: board found, message kept, requester");
+    for (unsigned round = 0; round < ROUNDS; round++)
+        for (uint8_t stage = 0; stage < STAGES; stage++)
+            for (uint8_t event = NADRELGOS_EVENT_JOIN; event <= NADRELGOS_EVENT_DISCOVER; event++)
+                hold_never_looked_at(stage, event);
+    end();
+}
+
 /* ---- counts of records other than forty: 22, and nothing is changed, least of all past the count */
 
 static void hold_count_refused(size_t count) {
     make_fit(0);
     keep();
     hold_refused(set_up(count), NADRELGOS_STATE_UNFIT, count);
-    for (uint8_t event = 0; event <= NADRELGOS_EVENT_QUIET + 1; event++)
+    for (uint8_t event = 0; event <= NADRELGOS_EVENT_DISCOVER + 1; event++)
         hold_step_refused(event, NADRELGOS_STATE_UNFIT, count);
     for (enum change change = LIST; change <= MARK; change++) {
         keep();
@@ -291,10 +261,10 @@ static void refuses_other_counts(void) {
 /* ---- event numbers that are none: 12, or 22 where the records are not fit */
 
 static void refuses_other_events(void) {
-    begin("events outside 1 to 4");
+    begin("events outside 1 to 5");
     for (unsigned event = 0; event <= UINT8_MAX; event++) {
-        if (NADRELGOS_EVENT_JOIN <= event && event <= NADRELGOS_EVENT_QUIET) continue;
-        for (uint8_t stage = 0; stage <= 7; stage++) {
+        if (NADRELGOS_EVENT_JOIN <= event && event <= NADRELGOS_EVENT_DISCOVER) continue;
+        for (uint8_t stage = 0; stage < STAGES; stage++) {
             make_fit(stage);
             hold_step_refused((uint8_t)event, NADRELGOS_BAD_TYPE, NADRELGOS_NODES);
         }
@@ -406,11 +376,14 @@ int main(void) {
     refuses_garbage();
     refuses_one_wrong_field();
     takes_fit_records();
+    never_looks_at_the_rest();
+    frames_in_the_exchange();
+    frames_out_of_the_exchange();
     refuses_other_counts();
     refuses_other_events();
     sets_up_over_garbage();
     refuses_setup_over_garbage();
     amends_as_defined();
     amends_nobody();
-    return failed;
+    return some_failed();
 }

@@ -23,13 +23,18 @@ static bool same_stand(const struct nadrelgos_stand *one, const struct nadrelgos
     return one->stage == other->stage && one->board == other->board && one->requester == other->requester;
 }
 
-static bool same_kept(const struct nadrelgos_kept *one, const struct nadrelgos_kept *other) {
+bool same_kept(const struct nadrelgos_kept *one, const struct nadrelgos_kept *other) {
     return one->message == other->message && one->packet == other->packet && one->kind == other->kind &&
            one->method == other->method && one->parameter == other->parameter && one->length == other->length &&
            memcmp(one->payload, other->payload, sizeof one->payload) == 0;
 }
 
+bool same_found(const struct nadrelgos_found *one, const struct nadrelgos_found *other) {
+    return one->kind == other->kind && one->mac == other->mac && one->session == other->session;
+}
+
 bool same_coordinator(const struct nadrelgos_coordinator *one, const struct nadrelgos_coordinator *other) {
     return same_settings(&one->setup, &other->setup) && one->last == other->last && one->held == other->held &&
-           same_stand(&one->stand, &other->stand) && same_kept(&one->kept, &other->kept);
+           one->searched == other->searched && same_stand(&one->stand, &other->stand) &&
+           same_kept(&one->kept, &other->kept) && same_found(&one->found, &other->found);
 }

@@ -8,6 +8,10 @@
 
 bool same_nodes(const struct nadrelgos_node *some, const struct nadrelgos_node *others, size_t count);
 
+bool same_kept(const struct nadrelgos_kept *one, const struct nadrelgos_kept *other);
+
+bool same_found(const struct nadrelgos_found *one, const struct nadrelgos_found *other);
+
 bool same_coordinator(const struct nadrelgos_coordinator *one, const struct nadrelgos_coordinator *other);
 
 #endif

@@ -45,9 +45,10 @@ static bool parts_fit(uint64_t answer) {
     bool waits = board || exchange, moves = joined || dropped;
     switch (nadrelgos_answer(answer)) {
     case NADRELGOS_WAIT:
-        return is_position(board) && NADRELGOS_OFFER <= exchange && exchange <= NADRELGOS_RETURN && !moves;
-    case NADRELGOS_DELIVER:
-    case NADRELGOS_TRANSMIT: return nadrelgos_written(answer) > 0 && !waits && !moves;
+        return is_position(board) && NADRELGOS_OFFER <= exchange && exchange <= NADRELGOS_ASSIGN && !moves;
+    case NADRELGOS_DELIVER: return nadrelgos_written(answer) > 0 && !waits && !moves;
+    case NADRELGOS_TRANSMIT:
+        return nadrelgos_written(answer) > 0 && !waits && !dropped && (!joined || is_position(joined));
     case NADRELGOS_REST:
         return nadrelgos_written(answer) == 0 && !waits && !(joined && dropped) &&
                (!moves || is_position(joined + dropped));
@@ -186,14 +187,14 @@ static void write_bytes(const char *words, uint64_t answer) {
 }
 
 static void write_wait(uint64_t answer) {
-    static const char *const exchanges[] = {"none", "offer", "list", "forward", "return"};
+    static const char *const exchanges[] = {"none",   "offer",  "list",     "forward",
+                                            "return", "search", "identify", "assign"};
     unsigned exchange = nadrelgos_exchange(answer);
     printf("wait %u ", nadrelgos_board(answer));
-    write_bytes(exchange <= NADRELGOS_RETURN ? exchanges[exchange] : "unknown", answer);
+    write_bytes(exchange <= NADRELGOS_ASSIGN ? exchanges[exchange] : "unknown", answer);
 }
 
-static void write_rest(uint64_t answer) {
-    printf("rest");
+static void write_moves(uint64_t answer) {
     if (nadrelgos_joined(answer)) printf(" joined %u", nadrelgos_joined(answer));
     if (nadrelgos_dropped(answer)) printf(" dropped %u", nadrelgos_dropped(answer));
 }
@@ -205,9 +206,10 @@ static void answer_step(uint64_t answer, size_t room) {
     case NADRELGOS_WAIT: write_wait(answer); break;
     case NADRELGOS_DELIVER: write_bytes("deliver", answer); break;
     case NADRELGOS_TRANSMIT: write_bytes("transmit", answer); break;
-    case NADRELGOS_REST: write_rest(answer); break;
+    case NADRELGOS_REST: printf("rest"); break;
     default: printf("unknown"); break;
     }
+    write_moves(answer);
     putchar('\n');
 }
 
@@ -243,6 +245,14 @@ static bool play_turn(struct line *line) {
     if (!is_whole(line)) return false;
     prepare();
     answer_step(nadrelgos_turn(&lent.coordinator, lent.nodes, lent.out, room), room);
+    return true;
+}
+
+static bool play_discover(struct line *line) {
+    size_t room = next_number(line, BYTES);
+    if (!is_whole(line)) return false;
+    prepare();
+    answer_step(nadrelgos_discover(&lent.coordinator, lent.nodes, lent.out, room), room);
     return true;
 }
 
@@ -283,7 +293,7 @@ static bool play(struct line *line) {
     static const struct {
         const char *text;
         bool (*play)(struct line *line);
-    } orders[] = {{"setup", play_setup}, {"join", play_join},   {"turn", play_turn},
+    } orders[] = {{"setup", play_setup}, {"join", play_join},   {"discover", play_discover}, {"turn", play_turn},
                   {"frame", play_frame}, {"quiet", play_quiet}, {"table", play_table}};
     struct word first = next_word(line);
     for (size_t i = 0; i < sizeof orders / sizeof *orders; i++)

@@ -20,7 +20,7 @@ from lent import KeptCoordinator, Output, SharedNodes
 from parameters import Arguments, Value
 from rows import COORDINATOR, NODE, NOTHING, TABLE, U64, USIZE, Struct
 from shape import Shape
-from terms import ABOUT, G, abbrev, lemma, nest, nth
+from terms import ABOUT, G, abbrev, chained, grouped, lemma, nest, nth
 
 
 class InPlace(Shape):
@@ -50,6 +50,14 @@ class InPlace(Shape):
         load, store = ['load.ref', 'load.slice'], ['unit', 'store.ref', 'store.slice']
         pure = ['coordinator.copy'] * bool(self.coordinator) + self.passed.temporaries()
         return ['n', 't', 'r'] + load + pure + store
+
+    def types(self):
+        """the types of the locals that are large, by their names, and of the result of PURE by those of its fields: what is computed from the code's table of types
+        has each name and each field in it, at every step, and a walk over it comes to the checker's limit"""
+        of = {'coordinator': COORDINATOR, 'table': TABLE, self.field: self.answer}
+        fields = chained((f'tcons {grouped(of[field].mirror)}' for field in self.fields), ' ', 'tnil')
+        copy = {'coordinator.copy': COORDINATOR.mirror} if self.coordinator else {}
+        return {'t': TABLE.mirror, 'r': f'tyStruct ({self.result.alias}.struct .name) {fields}', **copy}
 
     def head(self):
         """first line and imports"""
@@ -106,7 +114,7 @@ class InPlace(Shape):
 
     def walk(self):
         """the walk, statement by statement"""
-        w = self.enter(self.locals())
+        w = self.enter(self.locals(), self.types())
         w.copy('n', w.field('nodes', 1), '(tt, record { fits = room₁ .0 })')
         self.call_load(w)
         if self.coordinator:

@@ -52,7 +52,8 @@ class UInt(Row):
 
     def __init__(self, kind):
         width = WIDTH[kind]
-        super().__init__(kind, 'ℕ', f'uint-lawful 𝓤 H A W {width}', f'uint-makes 𝓤 H A W {width}', f'uint-vals {width}', f'uint-tells {width}', f'vint {width}')
+        super().__init__(kind, 'ℕ', f'uint-lawful 𝓤 H A W {width}', f'uint-makes 𝓤 H A W {width}', f'uint-vals {width}', f'uint-tells {width}', f'vint {width}',
+                         f'tyInt {width}')
 
 
 class Declared(Row):

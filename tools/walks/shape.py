@@ -118,12 +118,12 @@ class Shape:
         return (f'  module _ (C : Calls 𝓤 H) (Λ : Loops 𝓤 H) (fm : FmC 𝓤 H (W .laws) C) {premises} where\n'
                 f'    walk : ent 𝓤 ({entry}) (WpFn 𝓤 H C Λ code.function args Post)\n    walk =\n{w.text(last)}\n')
 
-    def enter(self, names):
-        """a walk that has entered the function, with the locals of the parameters and then these, and has what is owned of each parameter"""
-        w = Walk.at_entry(['return', *(x.name for x in self.parameters), *names])
+    def enter(self, names, types=()):
+        """a walk that has entered the function, with the locals of the parameters and then these, some of given types, and has what is owned of each parameter"""
+        w = Walk.at_entry(['return', *(x.name for x in self.parameters), *names], types)
         tokens = f'({self.parameters.tokens()})' if self.tokens_apart else 'toks'
         w.say(f'qed W ({tokens} ∷ ‵ (owns ({self.parameters.rows()}) a at) ∷ []) ∵ enter ! C Λ code.function args _ $')
-        w.say(' '.join(f'alloc1 ! (λ {w.location(local)}.' for local in w.locals) + ' alloc0 ! $ params1 ! $')
+        w.allocate()
         passes = [f'pass1 ! (init ! {w.cell(x.name)} refl {x.typed}) $' for x in self.parameters] + ['pass0 ! $']
         if self.parameters[0].own_line:
             w.say(passes.pop(0))

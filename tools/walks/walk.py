@@ -1,22 +1,22 @@
 """The context of a walk, by names. A walk's steps take positions in its context, and its statements the positions of the locals' cells; this computes them,
 so that none is counted by hand."""
-from terms import consed, fits, location
+from terms import consed, fits, grouped, location
 
 
 class Walk:
-    """`ctx` is the context as a list of names, the head first, and `locals` are those of the function, by names, in the compiler's order. Each method appends a
-    line to `lines` and changes `ctx` as the step does.
+    """`ctx` is the context as a list of names, the head first, and `locals` are those of the function, by names, in the compiler's order; `types` are those that
+    the walk itself gives for some of them. Each method appends a line to `lines` and changes `ctx` as the step does.
 
     Names of items: `cell X` is the cell of the local X and `freeing X` what frees it; `tokens` are those of several lifetimes and `owned` is what is owned of
     several parameters, each as one item; `plain` is the ownership of something by value, which is made and given up at will."""
 
-    def __init__(self, ctx, names=()):
-        self.ctx, self.locals, self.lines = list(ctx), list(names), []
+    def __init__(self, ctx, names=(), types=()):
+        self.ctx, self.locals, self.types, self.lines = list(ctx), list(names), dict(types), []
 
     @classmethod
-    def at_entry(cls, names):
+    def at_entry(cls, names, types):
         """with the locals, the last in front; then the tokens, and what is owned of the parameters"""
-        return cls([item for name in reversed(names) for item in (f'cell {name}', f'freeing {name}')] + ['tokens', 'owned'], names)
+        return cls([item for name in reversed(names) for item in (f'cell {name}', f'freeing {name}')] + ['tokens', 'owned'], names, types)
 
     def say(self, line):
         """a line that leaves the context as it is"""
@@ -101,6 +101,11 @@ class Walk:
             self.fjoin(name, 'owned', 'owned')
 
     # Statements of the code.
+    def allocate(self):
+        """the locals, each of the type that the walk gives for it, or else of what the type computes to in the code"""
+        types = {local: f'{{τ = {type_}}} ' for local, type_ in self.types.items()}
+        self.say(' '.join(f'alloc1 ! {types.get(local, "")}(λ {self.location(local)}.' for local in self.locals) + ' alloc0 ! $ params1 ! $')
+
     def cell(self, local):
         """the position of a local's cell"""
         return self.at(f'cell {local}')
@@ -155,7 +160,8 @@ class Walk:
 
     def spell(self, local, row, term, proof, bound):
         """the value of a local is that of the term, so that its fields can be read"""
-        cell = f'λ ({bound} : Val). ‵ (fat fullShare {row.mirror} {self.location(local)} 0 {bound})'
+        type_ = grouped(self.types.get(local, row.mirror))
+        cell = f'λ ({bound} : Val). ‵ (fat fullShare {type_} {self.location(local)} 0 {bound})'
         self.say(f'rewrite ! {self.cell(local)} ({cell}) (ap only ({row.tells} {term} _ {proof})) refl $')
 
     def leave(self):

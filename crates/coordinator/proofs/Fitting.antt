@@ -1,9 +1,9 @@
 -- The test of fit decides what fit means, its parts by name, and what it says of the boards that a phase names.
-use Prim.Native.Nat.{ℕ, _≤_, _<_}
+use Prim.Native.Nat.{ℕ, _≤_}
 use native.Mathlib.Omega.{arith}
 use mathlib.Core.Path.{_≡_, refl, sym, _∙_}
 use mathlib.Core.Logic.{_⊎_, inl, inr}
-use mathlib.Core.Bool.{Bool, true, false, _&&_, _||_, false≢true}
+use mathlib.Core.Bool.{Bool, true, false, _&&_, not, false≢true}
 use mathlib.Core.List.{List}
 use lib.Dec.{eqb, leb, ltb}
 use lib.ListN.{length}
@@ -13,6 +13,7 @@ use Rattle.ground.proofs.Loops.{some-of}
 use Rattle.ground.proofs.Firsts.{FirstCase}
 use Rattle.board.specs.declared.Node.{Node}
 use Rattle.board.specs.declared.Wanted.the-variants.{Listed as ListedOnes}
+use Rattle.board.specs.Node.{isKind, isMac}
 use Rattle.board.specs.Table.{at, listedAt}
 use Rattle.board.specs.Wanted.{lowestOf, someListed}
 use Rattle.board.proofs.Positions.{listed-within}
@@ -20,17 +21,20 @@ use Rattle.board.proofs.LowestWanted.{lowest-case, some-lowest}
 use Rattle.setup.specs.Setup.{setupFits}
 use Rattle.setup.specs.Fit.{tableFits}
 use Rattle.setup.specs.Fitness.{Position, Listed}
-use Rattle.setup.proofs.Pools.{setup-told, setup-passes}
+use Rattle.setup.proofs.Pools.{mac-told, mac-passes, setup-told, setup-passes}
 use Rattle.setup.proofs.Tables.{table-told, table-passes}
 use Rattle.coordinator.specs.declared.Exchange.{Exchange}
 use Rattle.coordinator.specs.declared.Exchange.the-variants.{Offer, List as Listing, Forward, Return}
+use Rattle.coordinator.specs.declared.Part.{Part}
+use Rattle.coordinator.specs.declared.Part.the-variants.{Search, IdentifyDue, Identify, Present, AssignDue, Assign}
 use Rattle.coordinator.specs.declared.Phase.{Phase}
-use Rattle.coordinator.specs.declared.Phase.the-variants.{Resting, Awaiting, ForwardDue, ReturnDue, Unknown}
+use Rattle.coordinator.specs.declared.Phase.the-variants.{Resting, Awaiting, ForwardDue, ReturnDue, Seeking, Unknown}
 use Rattle.coordinator.specs.declared.Kept.{Kept}
+use Rattle.coordinator.specs.declared.Found.{Found}
 use Rattle.coordinator.specs.declared.Coordinator.{Coordinator}
 use Rattle.coordinator.specs.Phase.{phaseOf}
-use Rattle.coordinator.specs.Fit.{isRequest, isResponse, phaseFits, holdFits, fits}
-use Rattle.coordinator.specs.Fitness.{Request, Response, Names, KeptFor, SomeoneListed, Fit}
+use Rattle.coordinator.specs.Fit.{isRequest, isResponse, phaseFits, isFound, partFits, seekFits, holdFits, fits}
+use Rattle.coordinator.specs.Fitness.{Request, Response, Names, KeptFor, Discovered, FoundFor, AtStake, SomeoneListed, Fit}
 use Rattle.coordinator.proofs.Phases.{Made, phase-made, phase-known, known-stage}
 
 -- a listed position, as a test and as a fact
@@ -125,6 +129,7 @@ module _ (t : List Node) where
     phase-told (Awaiting b Return q a) h = plain-told b h
     phase-told (ForwardDue b q) h = forward-told b q h
     phase-told (ReturnDue b) h = (one-board b (and-left (listedAt t b) (isResponse m) h), response-told m (and-right (listedAt t b) (isResponse m) h))
+    phase-told (Seeking p part) h = ((λ q n. absurd n), tt)
     phase-told Unknown h = absurd (false≢true h)
 
     pub phase-passes : (p : Phase) → (p ≡ Unknown → ⊥) → ((q : ℕ) → Names p q → Listed t q) → KeptFor p m → phaseFits p t m ≡ true
@@ -136,7 +141,66 @@ module _ (t : List Node) where
     phase-passes (Awaiting b Return q a) u n f = plain-passes b n
     phase-passes (ForwardDue b q) u n f = forward-passes b q n f
     phase-passes (ReturnDue b) u n f = both _ _ (listed-passes t b (n b refl)) (response-passes m f)
+    phase-passes (Seeking p part) u n f = refl
     phase-passes Unknown u n f = absurd (u refl)
+
+-- the exchange by which a board joins: what was discovered, and the position at stake
+
+pub found-told : (f : Found) → isFound f ≡ true → Discovered f
+found-told f h =
+    record {
+      listed = eqb-false (f .kind) 0 (not-true (eqb (f .kind) 0) (and-left (not (eqb (f .kind) 0)) (not (eqb (f .kind) 165)) one));
+      kind = eqb-false (f .kind) 165 (not-true (eqb (f .kind) 165) (and-right (not (eqb (f .kind) 0)) (not (eqb (f .kind) 165)) one));
+      mac = mac-told (f .mac) (and-right (isKind (f .kind)) (isMac (f .mac)) h);
+    }
+  where
+    one : isKind (f .kind) ≡ true
+    one = and-left (isKind (f .kind)) (isMac (f .mac)) h
+
+pub found-passes : (f : Found) → Discovered f → isFound f ≡ true
+found-passes f d = both _ _ (both _ _ (not-yes (eqb (f .kind) 0) (ne-eqb (f .kind) 0 (d .listed))) (not-yes (eqb (f .kind) 165) (ne-eqb (f .kind) 165 (d .kind)))) (mac-passes (f .mac) (d .mac))
+
+part-told : (part : Part) (f : Found) → partFits part f ≡ true → FoundFor part f
+part-told Search f h = tt
+part-told IdentifyDue f h = found-told f h
+part-told Identify f h = found-told f h
+part-told Present f h = found-told f h
+part-told AssignDue f h = found-told f h
+part-told Assign f h = found-told f h
+
+part-passes : (part : Part) (f : Found) → FoundFor part f → partFits part f ≡ true
+part-passes Search f d = refl
+part-passes IdentifyDue f d = found-passes f d
+part-passes Identify f d = found-passes f d
+part-passes Present f d = found-passes f d
+part-passes AssignDue f d = found-passes f d
+part-passes Assign f d = found-passes f d
+
+-- a position from 1 to k at stake
+pub stake-told : (k p : ℕ) (part : Part) (f : Found) → (leb 1 p && leb p k && partFits part f) ≡ true → (Position k p) × (FoundFor part f)
+stake-told k p part f h = (record { from = leb-true 1 p (and-left (leb 1 p) (leb p k) here); upTo = leb-true p k (and-right (leb 1 p) (leb p k) here) }, part-told part f (and-right (leb 1 p && leb p k) (partFits part f) h))
+  where
+    here : (leb 1 p && leb p k) ≡ true
+    here = and-left (leb 1 p && leb p k) (partFits part f) h
+
+pub stake-passes : (k p : ℕ) (part : Part) (f : Found) → Position k p → partFits part f ≡ true → (leb 1 p && leb p k && partFits part f) ≡ true
+stake-passes k p part f here e = both _ _ (both _ _ (le-leb 1 p (here .from)) (le-leb p k (here .upTo))) e
+
+seek-told : (p : Phase) (k : ℕ) (f : Found) → seekFits p k f ≡ true → AtStake p k f
+seek-told Resting k f h = tt
+seek-told (Awaiting b x q a) k f h = tt
+seek-told (ForwardDue b q) k f h = tt
+seek-told (ReturnDue b) k f h = tt
+seek-told (Seeking p part) k f h = stake-told k p part f h
+seek-told Unknown k f h = tt
+
+seek-passes : (p : Phase) (k : ℕ) (f : Found) → AtStake p k f → seekFits p k f ≡ true
+seek-passes Resting k f s = refl
+seek-passes (Awaiting b x q a) k f s = refl
+seek-passes (ForwardDue b q) k f s = refl
+seek-passes (ReturnDue b) k f s = refl
+seek-passes (Seeking p part) k f s = stake-passes k p part f (s .0) (part-passes part f (s .1))
+seek-passes Unknown k f s = refl
 
 -- the hold
 
@@ -155,43 +219,51 @@ hold-passes held t l (inr (e, (p, h))) = or-right (eqb held 0) _ (both _ _ (eq-e
 
 -- the parts of the test by name
 
-record Parts (a b d e f g : Bool) : Type 0 where
+record Parts (a b d e s m f g : Bool) : Type 0 where
   forty : a ≡ true
   setup : b ≡ true
   table : d ≡ true
   phase : e ≡ true
+  seek : s ≡ true
+  memory : m ≡ true
   hold : f ≡ true
   last : g ≡ true
 
-parts : (a b d e f g : Bool) → (a && (b && (d && (e && (f && g))))) ≡ true → Parts a b d e f g
-parts a b d e f g h = record { forty = and-left a _ h; setup = and-left b _ h1; table = and-left d _ h2; phase = and-left e _ h3; hold = and-left f g h4; last = and-right f g h4 }
+parts : (a b d e s m f g : Bool) → (a && (b && (d && (e && (s && (m && (f && g))))))) ≡ true → Parts a b d e s m f g
+parts a b d e s m f g h = record { forty = and-left a _ h; setup = and-left b _ h1; table = and-left d _ h2; phase = and-left e _ h3; seek = and-left s _ h4; memory = and-left m _ h5; hold = and-left f g h6; last = and-right f g h6 }
   where
-    h1 : (b && (d && (e && (f && g)))) ≡ true
+    h1 : (b && (d && (e && (s && (m && (f && g)))))) ≡ true
     h1 = and-right a _ h
 
-    h2 : (d && (e && (f && g))) ≡ true
+    h2 : (d && (e && (s && (m && (f && g))))) ≡ true
     h2 = and-right b _ h1
 
-    h3 : (e && (f && g)) ≡ true
+    h3 : (e && (s && (m && (f && g)))) ≡ true
     h3 = and-right d _ h2
 
-    h4 : (f && g) ≡ true
+    h4 : (s && (m && (f && g))) ≡ true
     h4 = and-right e _ h3
+
+    h5 : (m && (f && g)) ≡ true
+    h5 = and-right s _ h4
+
+    h6 : (f && g) ≡ true
+    h6 = and-right m _ h5
 
 module _ (c : Coordinator) (t : List Node) where
   -- all of them make the whole
-  pub fits-of : length t ≡ 40 → setupFits (c .setup) ≡ true → tableFits (c .setup .k) t ≡ true → phaseFits (phaseOf (c .stand)) t (c .kept) ≡ true → holdFits (c .held) t ≡ true → c .last ≤ c .setup .k → fits c t ≡ true
+  pub fits-of : length t ≡ 40 → setupFits (c .setup) ≡ true → tableFits (c .setup .k) t ≡ true → phaseFits (phaseOf (c .stand)) t (c .kept) ≡ true → seekFits (phaseOf (c .stand)) (c .setup .k) (c .found) ≡ true → c .searched ≤ 1 → holdFits (c .held) t ≡ true → c .last ≤ c .setup .k → fits c t ≡ true
   unfolding fits
-  fits-of a b d e f g = both _ _ (eq-eqb (length t) 40 a) (both _ _ b (both _ _ d (both _ _ e (both _ _ f (le-leb (c .last) (c .setup .k) g)))))
+  fits-of a b d e s m f g = both _ _ (eq-eqb (length t) 40 a) (both _ _ b (both _ _ d (both _ _ e (both _ _ s (both _ _ (le-leb (c .searched) 1 m) (both _ _ f (le-leb (c .last) (c .setup .k) g)))))))
 
   -- what fit means makes the test hold
   pub fit-passes : Fit c t → fits c t ≡ true
-  fit-passes f = fits-of (f .table .forty) (setup-passes (c .setup) (f .setup)) (table-passes (c .setup .k) t (f .table)) (phase-passes t (c .kept) (phaseOf (c .stand)) (phase-known (c .stand) (f .known)) (f .boards) (f .kept)) (hold-passes (c .held) t (f .table .forty) (f .held)) (f .last)
+  fit-passes f = fits-of (f .table .forty) (setup-passes (c .setup) (f .setup)) (table-passes (c .setup .k) t (f .table)) (phase-passes t (c .kept) (phaseOf (c .stand)) (phase-known (c .stand) (f .known)) (f .boards) (f .kept)) (seek-passes (phaseOf (c .stand)) (c .setup .k) (c .found) (f .stake)) (f .searched) (hold-passes (c .held) t (f .table .forty) (f .held)) (f .last)
 
   module _ (h : fits c t ≡ true) where
-    opened : Parts (eqb (length t) 40) (setupFits (c .setup)) (tableFits (c .setup .k) t) (phaseFits (phaseOf (c .stand)) t (c .kept)) (holdFits (c .held) t) (leb (c .last) (c .setup .k))
+    opened : Parts (eqb (length t) 40) (setupFits (c .setup)) (tableFits (c .setup .k) t) (phaseFits (phaseOf (c .stand)) t (c .kept)) (seekFits (phaseOf (c .stand)) (c .setup .k) (c .found)) (leb (c .searched) 1) (holdFits (c .held) t) (leb (c .last) (c .setup .k))
     unfolding fits
-    opened = parts (eqb (length t) 40) (setupFits (c .setup)) (tableFits (c .setup .k) t) (phaseFits (phaseOf (c .stand)) t (c .kept)) (holdFits (c .held) t) (leb (c .last) (c .setup .k)) h
+    opened = parts (eqb (length t) 40) (setupFits (c .setup)) (tableFits (c .setup .k) t) (phaseFits (phaseOf (c .stand)) t (c .kept)) (seekFits (phaseOf (c .stand)) (c .setup .k) (c .found)) (leb (c .searched) 1) (holdFits (c .held) t) (leb (c .last) (c .setup .k)) h
 
     pub fits-forty : length t ≡ 40
     fits-forty = eqb-true (length t) 40 (opened .forty)
@@ -205,6 +277,12 @@ module _ (c : Coordinator) (t : List Node) where
     pub fits-phase : phaseFits (phaseOf (c .stand)) t (c .kept) ≡ true
     fits-phase = opened .phase
 
+    pub fits-seek : seekFits (phaseOf (c .stand)) (c .setup .k) (c .found) ≡ true
+    fits-seek = opened .seek
+
+    pub fits-searched : c .searched ≤ 1
+    fits-searched = leb-true (c .searched) 1 (opened .memory)
+
     pub fits-hold : holdFits (c .held) t ≡ true
     fits-hold = opened .hold
 
@@ -214,6 +292,10 @@ module _ (c : Coordinator) (t : List Node) where
     -- what the test says of the phase, where it is known which
     pub fits-in : {p : Phase} → phaseOf (c .stand) ≡ p → phaseFits p t (c .kept) ≡ true
     fits-in e = rw e at fits-phase
+
+    -- and of the position at stake
+    pub fits-stake : {p : ℕ} {part : Part} → phaseOf (c .stand) ≡ Seeking p part → (Position (c .setup .k) p) × (FoundFor part (c .found))
+    fits-stake {p} {part} e = stake-told (c .setup .k) p part (c .found) (rw e at fits-seek)
 
     pub fits-known : phaseOf (c .stand) ≡ Unknown → ⊥
     unfolding phaseFits
@@ -228,6 +310,8 @@ module _ (c : Coordinator) (t : List Node) where
           known = known-stage (c .stand) fits-known;
           boards = phase-told t (c .kept) (phaseOf (c .stand)) fits-phase .0;
           kept = phase-told t (c .kept) (phaseOf (c .stand)) fits-phase .1;
+          stake = seek-told (phaseOf (c .stand)) (c .setup .k) (c .found) fits-seek;
+          searched = fits-searched;
           held = hold-told (c .held) t fits-hold;
           last = fits-last;
         }

@@ -16,6 +16,9 @@ use Rattle.coordinator.proofs.with_phase.Reads as with-phase
 use Rattle.coordinator.proofs.offered.Reads as offered
 use Rattle.coordinator.proofs.holding.Reads as holding
 use Rattle.coordinator.proofs.keeping.Reads as keeping
+use Rattle.coordinator.proofs.searching.Reads as searching
+use Rattle.coordinator.proofs.finding.Reads as finding
+use Rattle.coordinator.proofs.ended.Reads as ended
 
 pub unique-phase-of : (a s t : _) (r q : Phase) → phase-of.Post tt a r s → phase-of.Post tt a q t → r ≡ q
 unique-phase-of a s t r q p p′ = p ∙ sym p′
@@ -43,3 +46,12 @@ unique-holding a s t r q p p′ = p ∙ sym p′
 
 pub unique-keeping : (a s t : _) (r q : Coordinator) → keeping.Post tt a r s → keeping.Post tt a q t → r ≡ q
 unique-keeping a s t r q p p′ = p ∙ sym p′
+
+pub unique-searching : (a s t : _) (r q : Coordinator) → searching.Post tt a r s → searching.Post tt a q t → r ≡ q
+unique-searching a s t r q p p′ = p ∙ sym p′
+
+pub unique-finding : (a s t : _) (r q : Coordinator) → finding.Post tt a r s → finding.Post tt a q t → r ≡ q
+unique-finding a s t r q p p′ = p ∙ sym p′
+
+pub unique-ended : (a s t : _) (r q : Coordinator) → ended.Post tt a r s → ended.Post tt a q t → r ≡ q
+unique-ended a s t r q p p′ = p ∙ sym p′

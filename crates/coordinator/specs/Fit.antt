@@ -5,15 +5,19 @@ use mathlib.Core.List.{List}
 use lib.ListN.{length}
 use lib.Dec.{eqb, leb, ltb}
 use Rattle.board.specs.declared.Node.{Node}
+use Rattle.board.specs.Node.{isKind, isMac}
 use Rattle.board.specs.Table.{listedAt}
 use Rattle.board.specs.Wanted.{someListed}
 use Rattle.setup.specs.Setup.{setupFits}
 use Rattle.setup.specs.Fit.{tableFits}
 use Rattle.coordinator.specs.declared.Exchange.{Exchange}
 use Rattle.coordinator.specs.declared.Exchange.the-variants.{Offer, List as Listing, Forward, Return}
+use Rattle.coordinator.specs.declared.Part.{Part}
+use Rattle.coordinator.specs.declared.Part.the-variants.{Search, IdentifyDue, Identify, Present, AssignDue, Assign}
 use Rattle.coordinator.specs.declared.Phase.{Phase}
-use Rattle.coordinator.specs.declared.Phase.the-variants.{Resting, Awaiting, ForwardDue, ReturnDue, Unknown}
+use Rattle.coordinator.specs.declared.Phase.the-variants.{Resting, Awaiting, ForwardDue, ReturnDue, Seeking, Unknown}
 use Rattle.coordinator.specs.declared.Kept.{Kept}
+use Rattle.coordinator.specs.declared.Found.{Found}
 use Rattle.coordinator.specs.declared.Coordinator.{Coordinator}
 use Rattle.coordinator.specs.Phase.{phaseOf}
 
@@ -38,16 +42,41 @@ phaseFits Resting t m = true
 phaseFits (Awaiting board exchange requester acked) t m = listedAt t board && exchangeFits exchange requester t m
 phaseFits (ForwardDue board requester) t m = listedAt t board && (listedAt t requester && isRequest m)
 phaseFits (ReturnDue board) t m = listedAt t board && isResponse m
+phaseFits (Seeking position part) t m = true
 phaseFits Unknown t m = false
+
+-- what was discovered is within the ranges of a record's type and MAC (02, C-11)
+abbrev pub isFound : Found → Bool
+isFound f = isKind (f .kind) && isMac (f .mac)
+
+-- when it is needed: from the discovery's response to the end of the exchange (02, C-11)
+abbrev pub partFits : Part → Found → Bool
+partFits Search f = true
+partFits IdentifyDue f = isFound f
+partFits Identify f = isFound f
+partFits Present f = isFound f
+partFits AssignDue f = isFound f
+partFits Assign f = isFound f
+
+-- the position at stake is one of 1 to k, listed or not (02, C-11: "Its wait may name a board that isn't listed; fit allows that")
+abbrev pub seekFits : Phase → ℕ → Found → Bool
+seekFits Resting k f = true
+seekFits (Awaiting board exchange requester acked) k f = true
+seekFits (ForwardDue board requester) k f = true
+seekFits (ReturnDue board) k f = true
+seekFits (Seeking position part) k f = leb 1 position && leb position k && partFits part f
+seekFits Unknown k f = true
 
 -- joins held only if someone is listed (01, "Fit")
 unfoldable pub holdFits : ℕ → List Node → Bool
 holdFits held t = eqb held 0 || (eqb held 1 && someListed t)
 
--- coordinator and table are fit (01, "Fit")
+-- coordinator and table are fit (01, "Fit"; 02, C-11: the memory of a discovery that was started is 0 or 1)
 unfoldable pub fits : Coordinator → List Node → Bool
 fits c t =
     eqb (length t) 40 &&
     (setupFits (c .setup) &&
     (tableFits (c .setup .k) t &&
-    (phaseFits (phaseOf (c .stand)) t (c .kept) && (holdFits (c .held) t && leb (c .last) (c .setup .k)))))
+    (phaseFits (phaseOf (c .stand)) t (c .kept) &&
+    (seekFits (phaseOf (c .stand)) (c .setup .k) (c .found) &&
+    (leb (c .searched) 1 && (holdFits (c .held) t && leb (c .last) (c .setup .k)))))))

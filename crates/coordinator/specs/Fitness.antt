@@ -4,11 +4,14 @@ use mathlib.Core.Path.{_≡_}
 use mathlib.Core.Logic.{_⊎_}
 use mathlib.Core.List.{List}
 use Rattle.board.specs.declared.Node.{Node}
-use Rattle.setup.specs.Fitness.{FitSetup, FitTable, Listed}
+use Rattle.setup.specs.Fitness.{Position, Mac, FitSetup, FitTable, Listed}
 use Rattle.coordinator.specs.declared.Exchange.the-variants.{Offer, List as Listing, Forward, Return}
+use Rattle.coordinator.specs.declared.Part.{Part}
+use Rattle.coordinator.specs.declared.Part.the-variants.{Search, IdentifyDue, Identify, Present, AssignDue, Assign}
 use Rattle.coordinator.specs.declared.Phase.{Phase}
-use Rattle.coordinator.specs.declared.Phase.the-variants.{Resting, Awaiting, ForwardDue, ReturnDue, Unknown}
+use Rattle.coordinator.specs.declared.Phase.the-variants.{Resting, Awaiting, ForwardDue, ReturnDue, Seeking, Unknown}
 use Rattle.coordinator.specs.declared.Kept.{Kept}
+use Rattle.coordinator.specs.declared.Found.{Found}
 use Rattle.coordinator.specs.declared.Coordinator.{Coordinator}
 use Rattle.coordinator.specs.Phase.{phaseOf}
 
@@ -37,6 +40,7 @@ Names (Awaiting board Forward requester acked) p = (p ≡ board) ⊎ (p ≡ requ
 Names (Awaiting board Return requester acked) p = p ≡ board
 Names (ForwardDue board requester) p = (p ≡ board) ⊎ (p ≡ requester)
 Names (ReturnDue board) p = p ≡ board
+Names (Seeking position part) p = ⊥
 Names Unknown p = ⊥
 
 -- what the phase needs to be kept: the request until its response comes, the response until it is returned; nothing else (house)
@@ -48,7 +52,32 @@ KeptFor (Awaiting board Forward requester acked) m = Request m
 KeptFor (Awaiting board Return requester acked) m = Unit {0}
 KeptFor (ForwardDue board requester) m = Request m
 KeptFor (ReturnDue board) m = Response m
+KeptFor (Seeking position part) m = Unit {0}
 KeptFor Unknown m = Unit {0}
+
+-- what was discovered is within the ranges: a type that is neither 0 nor 165, a MAC (02, C-11)
+pub record Discovered (f : Found) : Type 0 where
+  pub listed : f .kind ≡ 0 → ⊥
+  pub kind : f .kind ≡ 165 → ⊥
+  pub mac : Mac (f .mac)
+
+-- when it is needed: from the discovery's response to the end of the exchange (02, C-11)
+abbrev pub FoundFor : Part → Found → Type 0
+FoundFor Search f = Unit {0}
+FoundFor IdentifyDue f = Discovered f
+FoundFor Identify f = Discovered f
+FoundFor Present f = Discovered f
+FoundFor AssignDue f = Discovered f
+FoundFor Assign f = Discovered f
+
+-- what is at stake in the exchange by which a board joins: a position from 1 to k, listed or not, and what was discovered (02, C-11)
+abbrev pub AtStake : Phase → ℕ → Found → Type 0
+AtStake Resting k f = Unit {0}
+AtStake (Awaiting board exchange requester acked) k f = Unit {0}
+AtStake (ForwardDue board requester) k f = Unit {0}
+AtStake (ReturnDue board) k f = Unit {0}
+AtStake (Seeking position part) k f = (Position k position) × (FoundFor part f)
+AtStake Unknown k f = Unit {0}
 
 -- somebody is listed
 abbrev pub SomeoneListed : List Node → Type 0
@@ -58,8 +87,10 @@ SomeoneListed t = (p : ℕ) × Listed t p
 pub record Fit (c : Coordinator) (t : List Node) : Type 0 where
   pub setup : FitSetup (c .setup)
   pub table : FitTable (c .setup .k) t
-  pub known : c .stand .stage ≤ 7
+  pub known : c .stand .stage ≤ 13
   pub boards : (p : ℕ) → Names (phaseOf (c .stand)) p → Listed t p
   pub kept : KeptFor (phaseOf (c .stand)) (c .kept)
+  pub stake : AtStake (phaseOf (c .stand)) (c .setup .k) (c .found)
+  pub searched : c .searched ≤ 1
   pub held : (c .held ≡ 0) ⊎ ((c .held ≡ 1) × SomeoneListed t)
   pub last : c .last ≤ c .setup .k

@@ -3,10 +3,10 @@ use board::Table;
 use setup::Setup;
 ghost use mathlib.Core.Path.{_≡_};
 ghost use Rattle.board.specs.Table.{listedAt};
-ghost use Rattle.coordinator.specs.Phase.{phaseOf, stand, standOf};
-ghost use Rattle.coordinator.specs.Fit.{isRequest, isResponse, exchangeFits, phaseFits, holdFits, fits};
-ghost use Rattle.coordinator.specs.Fresh.{blankKept, fresh, blankTable};
-ghost use Rattle.coordinator.specs.Change.{withPhase, offered, holding, keeping};
+ghost use Rattle.coordinator.specs.Phase.{phaseOf, stand, stageOf, standOf};
+ghost use Rattle.coordinator.specs.Fit.{isRequest, isResponse, exchangeFits, phaseFits, isFound, partFits, seekFits, holdFits, fits};
+ghost use Rattle.coordinator.specs.Fresh.{blankKept, blankFound, fresh, blankTable};
+ghost use Rattle.coordinator.specs.Change.{withPhase, offered, holding, keeping, searching, finding, ended};
 
 // The kinds of exchange in which the panel waits for a board.
 pub enum Exchange {
@@ -16,8 +16,20 @@ pub enum Exchange {
     Return,
 }
 
-// What the panel is about: nothing, a wait for a board's answer, a transmission that is due to a board. A forward names
-// the board that made the request besides, and its wait whether the ACK has come.
+// The parts of the exchange by which a board joins, in their order: a wait for whoever has no address, Get Node ID due to
+// the address at stake, the wait for it, the same once an ACK has come, Set Address due, the wait for it.
+pub enum Part {
+    Search,
+    IdentifyDue,
+    Identify,
+    Present,
+    AssignDue,
+    Assign,
+}
+
+// What the panel is about: nothing, a wait for a board's answer, a transmission that is due to a board, an exchange by
+// which a board joins. A forward names the board that made the request besides, and its wait whether the ACK has come; an
+// exchange by which a board joins names the position whose address is at stake, listed or not.
 pub enum Phase {
     Resting,
     Awaiting {
@@ -32,6 +44,10 @@ pub enum Phase {
     },
     ReturnDue {
         board: usize,
+    },
+    Seeking {
+        position: usize,
+        part: Part,
     },
     Unknown,
 }
@@ -56,14 +72,25 @@ pub struct Kept {
     pub payload: [u8; 240],
 }
 
-// The coordinator's record. `held` is 1 where joins are held, else 0.
+// What was discovered: type, MAC and session, from the discovery's response to the end of the exchange.
+#[repr(C)]
+pub struct Found {
+    pub kind: u8,
+    pub mac: u64,
+    pub session: u64,
+}
+
+// The coordinator's record. `held` is 1 where joins are held, else 0; `searched` is 1 where a discovery was started since
+// the last offer, else 0.
 #[repr(C)]
 pub struct Coordinator {
     pub setup: Setup,
     pub last: usize,
     pub held: u8,
+    pub searched: u8,
     pub stand: Stand,
     pub kept: Kept,
+    pub found: Found,
 }
 
 // A wait.
@@ -75,6 +102,16 @@ fn awaiting(board: usize, exchange: Exchange, requester: usize, acked: bool) -> 
         exchange: exchange,
         requester: requester,
         acked: acked,
+    }
+}
+
+// A part of an exchange by which a board joins.
+fn seeking(position: usize, part: Part) -> Phase
+    ensures { λ r. ⌜ r ≡ Phase.Seeking position part ⌝ }
+{
+    Phase::Seeking {
+        position: position,
+        part: part,
     }
 }
 
@@ -97,6 +134,12 @@ pub fn phase_of(stand: Stand) -> Phase
             requester: requester,
         },
         7 => Phase::ReturnDue { board: board },
+        8 => seeking(board, Part::Search),
+        9 => seeking(board, Part::IdentifyDue),
+        10 => seeking(board, Part::Identify),
+        11 => seeking(board, Part::Present),
+        12 => seeking(board, Part::AssignDue),
+        13 => seeking(board, Part::Assign),
         _ => Phase::Unknown,
     }
 }
@@ -108,6 +151,20 @@ fn standing(stage: u8, board: usize, requester: usize) -> Stand
         stage: stage,
         board: board,
         requester: requester,
+    }
+}
+
+// The number of a part of the exchange by which a board joins.
+fn stage_of(part: Part) -> u8
+    ensures { λ r. ⌜ r ≡ stageOf part ⌝ }
+{
+    match part {
+        Part::Search => 8,
+        Part::IdentifyDue => 9,
+        Part::Identify => 10,
+        Part::Present => 11,
+        Part::AssignDue => 12,
+        Part::Assign => 13,
     }
 }
 
@@ -136,7 +193,8 @@ pub fn stand_of(phase: Phase) -> Stand
         },
         Phase::ForwardDue { board, requester } => standing(6, board, requester),
         Phase::ReturnDue { board } => standing(7, board, 0),
-        Phase::Unknown => standing(8, 0, 0),
+        Phase::Seeking { position, part } => standing(stage_of(part), position, 0),
+        Phase::Unknown => standing(14, 0, 0),
     }
 }
 
@@ -187,7 +245,50 @@ fn phase_fits(phase: Phase, table: Table, kept: Kept) -> bool
             listed_at(table, board) & (listed_at(table, requester) & is_request(kept))
         }
         Phase::ReturnDue { board } => listed_at(table, board) & is_response(kept),
+        Phase::Seeking { position, part } => true,
         Phase::Unknown => false,
+    }
+}
+
+// What was discovered is within the ranges.
+fn is_found(found: Found) -> bool
+    ensures { λ r. ⌜ r ≡ isFound found ⌝ }
+{
+    (found.kind != 0) & (found.kind != 165) & setup::is_mac(found.mac)
+}
+
+// From its response on, what was discovered is needed.
+fn part_fits(part: Part, found: Found) -> bool
+    ensures { λ r. ⌜ r ≡ partFits part found ⌝ }
+{
+    match part {
+        Part::Search => true,
+        Part::IdentifyDue => is_found(found),
+        Part::Identify => is_found(found),
+        Part::Present => is_found(found),
+        Part::AssignDue => is_found(found),
+        Part::Assign => is_found(found),
+    }
+}
+
+// The position at stake is one of 1 to k, and what was discovered is as it should be.
+fn seek_fits(phase: Phase, k: usize, found: Found) -> bool
+    ensures { λ r. ⌜ r ≡ seekFits phase k found ⌝ }
+{
+    match phase {
+        Phase::Resting => true,
+        Phase::Awaiting {
+            board,
+            exchange,
+            requester,
+            acked,
+        } => true,
+        Phase::ForwardDue { board, requester } => true,
+        Phase::ReturnDue { board } => true,
+        Phase::Seeking { position, part } => {
+            (1 <= position) & (position <= k) & part_fits(part, found)
+        }
+        Phase::Unknown => true,
     }
 }
 
@@ -208,7 +309,9 @@ pub fn fits(coordinator: Coordinator, table: Table) -> bool
     setup::setup_fits(setup)
         & (setup::table_fits(k, table)
             & (phase_fits(phase, table, coordinator.kept)
-                & (hold_fits(coordinator.held, table) & (coordinator.last <= k))))
+                & (seek_fits(phase, k, coordinator.found)
+                    & ((coordinator.searched <= 1)
+                        & (hold_fits(coordinator.held, table) & (coordinator.last <= k))))))
 }
 
 // Nothing is kept.
@@ -226,6 +329,17 @@ fn blank_kept() -> Kept
     }
 }
 
+// Nothing is discovered.
+fn blank_found() -> Found
+    ensures { λ r. ⌜ r ≡ blankFound ⌝ }
+{
+    Found {
+        kind: 0,
+        mac: 0,
+        session: 0,
+    }
+}
+
 // The coordinator of a fresh start.
 pub fn fresh(setup: Setup) -> Coordinator
     ensures { λ r. ⌜ r ≡ fresh setup ⌝ }
@@ -234,8 +348,10 @@ pub fn fresh(setup: Setup) -> Coordinator
         setup: setup,
         last: 0,
         held: 0,
+        searched: 0,
         stand: stand_of(Phase::Resting),
         kept: blank_kept(),
+        found: blank_found(),
     }
 }
 
@@ -263,6 +379,7 @@ pub fn offered(coordinator: Coordinator, board: usize) -> Coordinator
     let mut c = coordinator;
     c.last = board;
     c.held = 0;
+    c.searched = 0;
     c.stand = stand_of(awaiting(board, Exchange::Offer, 0, false));
     c
 }
@@ -282,5 +399,35 @@ pub fn keeping(coordinator: Coordinator, kept: Kept) -> Coordinator
 {
     let mut c = coordinator;
     c.kept = kept;
+    c
+}
+
+// The coordinator that has started a discovery, with the address of a position at stake.
+pub fn searching(coordinator: Coordinator, position: usize) -> Coordinator
+    ensures { λ r. ⌜ r ≡ searching coordinator position ⌝ }
+{
+    let mut c = coordinator;
+    c.searched = 1;
+    c.stand = stand_of(seeking(position, Part::Search));
+    c
+}
+
+// The coordinator that keeps what was discovered, with Get Node ID due to the address at stake.
+pub fn finding(coordinator: Coordinator, found: Found, position: usize) -> Coordinator
+    ensures { λ r. ⌜ r ≡ finding coordinator found position ⌝ }
+{
+    let mut c = coordinator;
+    c.stand = stand_of(seeking(position, Part::IdentifyDue));
+    c.found = found;
+    c
+}
+
+// The coordinator after an exchange by which a board joins: at rest, and what was discovered is forgotten.
+pub fn ended(coordinator: Coordinator) -> Coordinator
+    ensures { λ r. ⌜ r ≡ ended coordinator ⌝ }
+{
+    let mut c = coordinator;
+    c.stand = stand_of(Phase::Resting);
+    c.found = blank_found();
     c
 }

@@ -4,23 +4,20 @@ use board::Table;
 use board::Wanted;
 use coordinator::Coordinator;
 use coordinator::Phase;
-use coordinator::Stand;
 use refusal::Refusal;
 use setup::Judged;
 use setup::Setup;
 use steps::Stepped;
 ghost use mathlib.Core.Path.{_≡_};
-ghost use mathlib.Core.Bool.{_&&_, _||_, not};
+ghost use mathlib.Core.Bool.{_&&_};
 ghost use mathlib.Core.List.{[]};
-ghost use lib.Dec.{eqb, ltb};
+ghost use lib.Dec.{eqb};
 ghost use lib.ListN.{drop};
 ghost use Rattle.refusal.specs.Refusal.{ruled, refuses, gives};
 ghost use Rattle.board.specs.Node.{isListed, isKind};
-ghost use Rattle.board.specs.Wanted.{lowestOf};
 ghost use Rattle.setup.specs.Setup.{toldOf};
-ghost use Rattle.coordinator.specs.Phase.{phaseOf};
 ghost use Rattle.steps.specs.After.{shown, shows};
-ghost use Rattle.steps.specs.Join.{isResting, known, chosen, isClash, joinRules, joining, joinOf};
+ghost use Rattle.steps.specs.Join.{isResting, isBusy, known, chosen, isClash, joinRules, joining, joinOf};
 
 // A board's type is neither 0 nor the coordinator's.
 fn is_kind(kind: u8) -> bool
@@ -29,7 +26,7 @@ fn is_kind(kind: u8) -> bool
     (kind != 0) & (kind != 165)
 }
 
-// No wait, and no forward or return due.
+// No wait, no forward or return due, no exchange by which a board joins.
 fn is_resting(phase: Phase) -> bool
     ensures { λ r. ⌜ r ≡ isResting phase ⌝ }
 {
@@ -43,16 +40,18 @@ fn is_resting(phase: Phase) -> bool
         } => false,
         Phase::ForwardDue { board, requester } => false,
         Phase::ReturnDue { board } => false,
+        Phase::Seeking { position, part } => false,
         Phase::Unknown => false,
     }
 }
 
-// The panel waits, or a forward, a return or a list is due.
-fn is_busy(stand: Stand, k: usize, table: Table) -> bool
-    ensures { λ r. ⌜ r ≡ (not (isResting (phaseOf stand)) || ltb 0 (lowestOf (table .nodes) Wanted.Owed k)) ⌝ }
+// The panel waits, a forward, a return or a list is due, or an exchange by which a board joins runs.
+pub fn is_busy(coordinator: Coordinator, table: Table) -> bool
+    ensures { λ r. ⌜ r ≡ isBusy coordinator (table .nodes) ⌝ }
 {
-    let phase = coordinator::phase_of(stand);
-    !is_resting(phase) | (0 < board::lowest(table, Wanted::Owed, k))
+    let setup = coordinator.setup;
+    let phase = coordinator::phase_of(coordinator.stand);
+    !is_resting(phase) | (0 < board::lowest(table, Wanted::Owed, setup.k))
 }
 
 // The position of a listed MAC; 0 for a new one.
@@ -117,9 +116,7 @@ fn judge_position(coordinator: Coordinator, table: Table, mac: u64) -> Judged
 fn judge_moment(coordinator: Coordinator, table: Table, mac: u64) -> Judged
     ensures { λ r. ⌜ toldOf r ≡ ruled (drop 3 (joinRules coordinator (table .nodes) 0 mac)) refuses (gives []) ⌝ }
 {
-    let setup = coordinator.setup;
-    let k = setup.k;
-    if is_busy(coordinator.stand, k, table) {
+    if is_busy(coordinator, table) {
         return Judged::Refused(Refusal::Busy);
     }
     if coordinator.held == 1 {

@@ -12,8 +12,9 @@ use Rattle.ground.specs.Choose.{choose}
 use Rattle.ground.proofs.Choices.{and-left, and-right, both}
 use Rattle.ground.proofs.Loops.{some-no}
 use Rattle.ground.proofs.Firsts.{FirstCase}
+use Rattle.refusal.specs.declared.Refusal.{Refusal}
 use Rattle.refusal.specs.declared.Refusal.the-variants.{BadType, BadMac, Busy, Held, Full, AddressClash}
-use Rattle.refusal.proofs.Rules.{Passed, Each, by-rules}
+use Rattle.refusal.proofs.Rules.{Passed, Each, each, by-rules}
 use Rattle.board.specs.declared.Node.{Node}
 use Rattle.board.specs.declared.Wanted.the-variants.{Mac, Free}
 use Rattle.board.specs.Node.{isKind, isMac}
@@ -28,14 +29,14 @@ use Rattle.setup.proofs.Apart.{free-apart}
 use Rattle.setup.proofs.Pools.{mac-told}
 use Rattle.setup.proofs.Tables.{table-passes}
 use Rattle.coordinator.specs.declared.Phase.{Phase}
-use Rattle.coordinator.specs.declared.Phase.the-variants.{Resting, Awaiting, ForwardDue, ReturnDue, Unknown}
+use Rattle.coordinator.specs.declared.Phase.the-variants.{Resting, Awaiting, ForwardDue, ReturnDue, Seeking, Unknown}
 use Rattle.coordinator.specs.declared.Kept.{Kept}
 use Rattle.coordinator.specs.declared.Coordinator.{Coordinator}
 use Rattle.coordinator.specs.Phase.{phaseOf}
 use Rattle.coordinator.specs.Fit.{phaseFits, holdFits, fits}
 use Rattle.coordinator.specs.Change.{holding}
-use Rattle.coordinator.proofs.Fitting.{listed-told, listed-passes, listed-some, fits-of, fits-setup, fits-last, fit-told}
-use Rattle.steps.specs.After.{refused}
+use Rattle.coordinator.proofs.Fitting.{listed-told, listed-passes, listed-some, fits-of, fits-setup, fits-seek, fits-searched, fits-last, fit-told}
+use Rattle.steps.specs.After.{After, refused}
 use Rattle.steps.specs.Join.{isResting, known, chosen, isClash, joining, joinRules, joinOf}
 use Rattle.lasting.proofs.Tables.{Follows, renewed-follows, put-fit, put-listed, join-fit, join-listed, owe-all-fit}
 use Rattle.lasting.proofs.Keeps.{Keeps, accepted-keeps, refused-keeps, never-keeps, unfit-keeps, some-same, table-fit}
@@ -126,22 +127,24 @@ resting-fits Resting t m e = refl
 resting-fits (Awaiting b x q a) t m e = absurd (false≢true e)
 resting-fits (ForwardDue b q) t m e = absurd (false≢true e)
 resting-fits (ReturnDue b) t m e = absurd (false≢true e)
+resting-fits (Seeking p part) t m e = refl
 resting-fits Unknown t m e = e
 
 -- the list is owed to all, and joins are held: the board that joined is listed
 joined-fits : (c : Coordinator) (t : List Node) → fits c t ≡ true → isResting (phaseOf (c .stand)) ≡ true → (p : ℕ) (n : Node) → Placed (c .setup .k) t p n → fits (holding c true) (oweAll (put t p n)) ≡ true
 unfolding holdFits
-joined-fits c t h rest p n (f, l) = fits-of (holding c true) (oweAll (put t p n)) (fit .forty) (fits-setup c t h) (table-passes (c .setup .k) (oweAll (put t p n)) fit) (resting-fits (phaseOf (c .stand)) (oweAll (put t p n)) (c .kept) rest) (some-same (put t p n) (oweAll (put t p n)) (owe-all-listed (put t p n)) ∙ listed-some (put t p n) p (f .forty) l) (fits-last c t h)
+joined-fits c t h rest p n (f, l) = fits-of (holding c true) (oweAll (put t p n)) (fit .forty) (fits-setup c t h) (table-passes (c .setup .k) (oweAll (put t p n)) fit) (resting-fits (phaseOf (c .stand)) (oweAll (put t p n)) (c .kept) rest) (fits-seek c t h) (fits-searched c t h) (some-same (put t p n) (oweAll (put t p n)) (owe-all-listed (put t p n)) ∙ listed-some (put t p n) p (f .forty) l) (fits-last c t h)
   where
     fit : FitTable (c .setup .k) (oweAll (put t p n))
     fit = owe-all-fit (c .setup .k) (put t p n) f
 
-idle : (a b : Bool) → (not a || b) ≡ false → a ≡ true
+-- what is busy neither by the one test nor by the other passes the first
+pub idle : (a b : Bool) → (not a || b) ≡ false → a ≡ true
 idle true b e = refl
 idle false b e = sym e
 
 -- 17 is not given: the address of a free position is nobody's
-clash-never : (c : Coordinator) (t : List Node) (mac : ℕ) → fits c t ≡ true → eqb (chosen t (c .setup .k) mac) 0 ≡ false → (eqb (known t (c .setup .k) mac) 0 && isClash (c .setup) t (chosen t (c .setup .k) mac)) ≡ true → ⊥
+pub clash-never : (c : Coordinator) (t : List Node) (mac : ℕ) → fits c t ≡ true → eqb (chosen t (c .setup .k) mac) 0 ≡ false → (eqb (known t (c .setup .k) mac) 0 && isClash (c .setup) t (chosen t (c .setup .k) mac)) ≡ true → ⊥
 unfolding choose
 clash-never c t mac h full e = go (ltb 0 (known t (c .setup .k) mac)) refl full (and-right (eqb (known t (c .setup .k) mac) 0) (isClash (c .setup) t (chosen t (c .setup .k) mac)) e)
   where
@@ -171,3 +174,29 @@ join-keeps c t kind mac session = by-rules (Keeps c t) (joinRules c t kind mac) 
 
     refusals : Each (λ r. Keeps c t (refused c t r)) (joinRules c t kind mac)
     refusals = (unfit-keeps c t, λ _. ((λ _. refused-keeps c t BadType refl), λ _. ((λ _. refused-keeps c t BadMac refl), λ _. ((λ _. refused-keeps c t Busy refl), λ _. ((λ _. refused-keeps c t Held refl), λ _. ((λ _. refused-keeps c t Full refl), λ full. ((λ e. never-keeps c t AddressClash (λ h. clash-never c t mac h full e)), λ _. tt)))))))
+
+-- who joined is within the ranges, at a position from 1 to k
+pub record Joined (c : Coordinator) (kind mac p : ℕ) : Type 0 where
+  pub isOne : isKind kind ≡ true
+  pub hasMac : isMac mac ≡ true
+  pub place : Position (c .setup .k) p
+
+-- a join that names a position was taken
+pub join-taken : (c : Coordinator) (t : List Node) (kind mac session : ℕ) → 1 ≤ joinOf c t kind mac session .joined → Joined c kind mac (joinOf c t kind mac session .joined)
+unfolding joinOf
+join-taken c t kind mac session = by-rules (λ (a : After). 1 ≤ a .joined → Joined c kind mac (a .joined)) (joinRules c t kind mac) (refused c t) _ (each nobody (joinRules c t kind mac)) (λ passed n. taken passed)
+  where
+    nobody : (r : Refusal) → 1 ≤ refused c t r .joined → Joined c kind mac (refused c t r .joined)
+    nobody r n = absurd (let z : ⊥ = omega arith in z)
+
+    taken : Passed (joinRules c t kind mac) → Joined c kind mac (chosen t (c .setup .k) mac)
+    taken passed = record { isOne = one; hasMac = own; place = there .0 .within (chosen t (c .setup .k) mac) (listed-told _ (chosen t (c .setup .k) mac) (there .1)) }
+      where
+        one : isKind kind ≡ true
+        one = not-false (isKind kind) (passed .1 .0)
+
+        own : isMac mac ≡ true
+        own = not-false (isMac mac) (passed .1 .1 .0)
+
+        there : Placed (c .setup .k) t (chosen t (c .setup .k) mac) (joining t (c .setup .k) kind mac session)
+        there = placed c t (not-false (fits c t) (passed .0)) kind mac session one own (passed .1 .1 .1 .1 .1 .0)

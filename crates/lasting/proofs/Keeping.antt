@@ -3,7 +3,7 @@ use mathlib.Core.Path.{_≡_}
 use mathlib.Core.Bool.{Bool, true, false}
 use Rattle.coordinator.specs.Fit.{fits}
 use Rattle.steps.specs.declared.Event.{Event}
-use Rattle.steps.specs.declared.Event.the-variants.{Join, Turn, Frame, Quiet}
+use Rattle.steps.specs.declared.Event.the-variants.{Join, Turn, Frame, Quiet, Discover}
 use Rattle.steps.specs.Step.{stepOf}
 use Rattle.series.specs.Series.{Input, World, left, isAccepted}
 use Rattle.series.specs.Ours.{ours}
@@ -12,6 +12,7 @@ use Rattle.lasting.proofs.Join.{join-keeps}
 use Rattle.lasting.proofs.Turn.{turn-keeps}
 use Rattle.lasting.proofs.Receive.{receive-keeps}
 use Rattle.lasting.proofs.Quiet.{quiet-keeps}
+use Rattle.lasting.proofs.Discover.{discover-keeps}
 
 pub step-keeps : (w : World) (i : Input) → Keeps (w .coordinator) (w .nodes) (ours .step w i)
 step-keeps w i = go (i .event)
@@ -21,6 +22,7 @@ step-keeps w i = go (i .event)
     go Turn = turn-keeps (w .coordinator) (w .nodes) (i .room)
     go Frame = receive-keeps (w .coordinator) (w .nodes) (i .received) (i .room)
     go Quiet = quiet-keeps (w .coordinator) (w .nodes)
+    go Discover = discover-keeps (w .coordinator) (w .nodes) (i .room)
 
 -- coordinator and table are fit together (01, "Fit")
 abbrev pub isFit : World → Bool

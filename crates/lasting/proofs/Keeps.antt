@@ -20,13 +20,13 @@ use Rattle.setup.specs.Fitness.{Listed, FitTable}
 use Rattle.setup.proofs.Tables.{table-passes}
 use Rattle.coordinator.specs.declared.Exchange.the-variants.{Offer, List as Listing, Forward, Return}
 use Rattle.coordinator.specs.declared.Phase.{Phase}
-use Rattle.coordinator.specs.declared.Phase.the-variants.{Resting, Awaiting, ForwardDue, ReturnDue, Unknown}
+use Rattle.coordinator.specs.declared.Phase.the-variants.{Resting, Awaiting, ForwardDue, ReturnDue, Seeking, Unknown}
 use Rattle.coordinator.specs.declared.Kept.{Kept}
 use Rattle.coordinator.specs.declared.Coordinator.{Coordinator}
-use Rattle.coordinator.specs.Fit.{phaseFits, holdFits, fits}
+use Rattle.coordinator.specs.Fit.{phaseFits, seekFits, holdFits, fits}
 use Rattle.coordinator.specs.Change.{withPhase, keeping}
 use Rattle.coordinator.proofs.Phases.{Made, phase-back}
-use Rattle.coordinator.proofs.Fitting.{fits-of, fits-setup, fits-hold, fits-last, fit-told}
+use Rattle.coordinator.proofs.Fitting.{fits-of, fits-setup, fits-searched, fits-hold, fits-last, fit-told}
 use Rattle.steps.specs.After.{After, refused}
 use Rattle.series.specs.Series.{isAccepted}
 use Rattle.lasting.proofs.Tables.{Follows, put-fit, put-listed, owe-all-fit}
@@ -117,6 +117,7 @@ module _ (t u : List Node) (same : (p : ℕ) → listedAt u p ≡ listedAt t p) 
   phase-same (Awaiting b Return q a) m h = rw (same b) h
   phase-same (ForwardDue b q) m h = rw (same b, same q) h
   phase-same (ReturnDue b) m h = rw (same b) h
+  phase-same (Seeking p part) m h = h
   phase-same Unknown m h = h
 
 module _ (c : Coordinator) (t : List Node) (h : fits c t ≡ true) where
@@ -125,6 +126,6 @@ module _ (c : Coordinator) (t : List Node) (h : fits c t ≡ true) where
   table-fit = fit-told c t h .table
 
   -- another phase and message over a table where the same boards are listed
-  pub phase-keeps : (u : List Node) → Stays (c .setup .k) t u → {p : Phase} (m : Kept) → Made p → phaseFits p t m ≡ true → fits (withPhase (keeping c m) p) u ≡ true
-  phase-keeps u s {p} m made e =
-      fits-of (withPhase (keeping c m) p) u (s .fit .forty) (fits-setup c t h) (table-passes (c .setup .k) u (s .fit)) (rw (phase-back made) (phase-same t u (s .listed) p m e)) (hold-same t u (s .listed) (c .held) (fits-hold c t h)) (fits-last c t h)
+  pub phase-keeps : (u : List Node) → Stays (c .setup .k) t u → {p : Phase} (m : Kept) → Made p → phaseFits p t m ≡ true → seekFits p (c .setup .k) (c .found) ≡ true → fits (withPhase (keeping c m) p) u ≡ true
+  phase-keeps u s {p} m made e at-stake =
+      fits-of (withPhase (keeping c m) p) u (s .fit .forty) (fits-setup c t h) (table-passes (c .setup .k) u (s .fit)) (rw (phase-back made) (phase-same t u (s .listed) p m e)) (rw (phase-back made) at-stake) (fits-searched c t h) (hold-same t u (s .listed) (c .held) (fits-hold c t h)) (fits-last c t h)

@@ -1,6 +1,9 @@
 pub mod Tables
 pub mod Keeps
 pub mod Join
+pub mod Discover
+pub mod Hear
+pub mod Seek
 pub mod Turn
 pub mod Heard
 pub mod Receive

@@ -18,18 +18,19 @@ use Rattle.board.proofs.Changes.{owe-all-listed}
 use Rattle.setup.specs.Fitness.{FitTable}
 use Rattle.setup.proofs.Tables.{table-passes}
 use Rattle.coordinator.specs.declared.Phase.{Phase}
-use Rattle.coordinator.specs.declared.Phase.the-variants.{Resting, Awaiting, ForwardDue, ReturnDue, Unknown}
+use Rattle.coordinator.specs.declared.Phase.the-variants.{Resting, Awaiting, ForwardDue, ReturnDue, Seeking, Unknown}
 use Rattle.coordinator.specs.declared.Coordinator.{Coordinator}
 use Rattle.coordinator.specs.Phase.{phaseOf}
 use Rattle.coordinator.specs.Fit.{phaseFits, holdFits, fits}
 use Rattle.coordinator.specs.Change.{withPhase, holding}
 use Rattle.coordinator.proofs.Phases.{resting, phase-back}
-use Rattle.coordinator.proofs.Fitting.{listed-told, awaited, fits-of, fits-setup, fits-hold, fits-last}
+use Rattle.coordinator.proofs.Fitting.{listed-told, awaited, fits-of, fits-setup, fits-searched, fits-hold, fits-last}
 use Rattle.coordinator.proofs.Changing.{with-phase-fits}
 use Rattle.steps.specs.After.{accepted, rests}
 use Rattle.steps.specs.Quiet.{droppedAt, missedAt, quietValue, quietRules, quietIn, quietOf}
 use Rattle.lasting.proofs.Tables.{missed-follows, clear-fit, owe-all-fit}
 use Rattle.lasting.proofs.Keeps.{Keeps, accepted-keeps, Stays, refused-keeps, rules-keep, put-stays, some-same, table-fit, phase-keeps}
+use Rattle.lasting.proofs.Seek.{seek-quiet-keeps}
 
 -- a hold is fit wherever somebody is listed
 hold-some : (held : ℕ) (t u : List Node) → holdFits held t ≡ true → someListed u ≡ true → holdFits held u ≡ true
@@ -43,9 +44,9 @@ hold-some held t u h s = rw s (go (eqb held 0) (eqb held 1) (someListed t) h)
 
 module _ (c : Coordinator) (t : List Node) (h : fits c t ≡ true) (board : ℕ) (l : listedAt t board ≡ true) where
   -- at rest, the board's record cleared and the list owed to all who remain
-  dropped-fits : (held : ℕ) → holdFits held (oweAll (put t board none)) ≡ true → fits (record { setup = c .setup; last = c .last; held = held; stand = withPhase c Resting .stand; kept = c .kept }) (oweAll (put t board none)) ≡ true
+  dropped-fits : (held : ℕ) → holdFits held (oweAll (put t board none)) ≡ true → fits (record { setup = c .setup; last = c .last; held = held; searched = c .searched; stand = withPhase c Resting .stand; kept = c .kept; found = c .found }) (oweAll (put t board none)) ≡ true
   unfolding phaseFits
-  dropped-fits held s = fits-of _ (oweAll (put t board none)) (fit .forty) (fits-setup c t h) (table-passes (c .setup .k) (oweAll (put t board none)) fit) (rw (phase-back resting) refl) s (fits-last c t h)
+  dropped-fits held s = fits-of _ (oweAll (put t board none)) (fit .forty) (fits-setup c t h) (table-passes (c .setup .k) (oweAll (put t board none)) fit) (rw (phase-back resting) refl) (rw (phase-back resting) refl) (fits-searched c t h) s (fits-last c t h)
     where
       fit : FitTable (c .setup .k) (oweAll (put t board none))
       fit = owe-all-fit (c .setup .k) (put t board none) (clear-fit (c .setup .k) t (table-fit c t h) board (listed-told t board l))
@@ -66,7 +67,7 @@ module _ (c : Coordinator) (t : List Node) (h : fits c t ≡ true) (board : ℕ)
   missed-keeps = go (ltb (at t board .misses) 2) refl
     where
       go : (b : Bool) → ltb (at t board .misses) 2 ≡ b → Keeps c t (choose b (accepted (withPhase c Resting) (put t board (missed (at t board))) rests []) (droppedAt c t board))
-      go true m = accepted-keeps c t _ (phase-keeps c t h _ (counted m) (c .kept) resting refl) refl refl
+      go true m = accepted-keeps c t _ (phase-keeps c t h _ (counted m) (c .kept) resting refl refl) refl refl
       go false m = dropped-keeps
 
 quiet-value : (c : Coordinator) (t : List Node) → fits c t ≡ true → (p : Phase) → phaseOf (c .stand) ≡ p → Keeps c t (quietValue p c t)
@@ -75,10 +76,11 @@ quiet-value c t h Resting e = refused-keeps c t NotWaiting refl
 quiet-value c t h (Awaiting b x q a) e = go a
   where
     go : (acked : Bool) → Keeps c t (choose acked (accepted (withPhase c Resting) t rests []) (missedAt c t b))
-    go true = accepted-keeps c t _ (with-phase-fits c t h resting refl) refl refl
+    go true = accepted-keeps c t _ (with-phase-fits c t h resting refl refl) refl refl
     go false = missed-keeps c t h b (awaited c t h e .listed)
 quiet-value c t h (ForwardDue b q) e = refused-keeps c t NotWaiting refl
 quiet-value c t h (ReturnDue b) e = refused-keeps c t NotWaiting refl
+quiet-value c t h (Seeking position part) e = seek-quiet-keeps c t h position part e
 quiet-value c t h Unknown e = refused-keeps c t NotWaiting refl
 
 pub quiet-keeps : (c : Coordinator) (t : List Node) → Keeps c t (quietOf c t)

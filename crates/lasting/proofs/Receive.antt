@@ -5,7 +5,7 @@ use mathlib.Core.Path.{_≡_, refl}
 use mathlib.Core.Bool.{Bool, true, false}
 use mathlib.Core.List.{List}
 use lib.ListN.{length, drop, length-take}
-use lib.Dec.{eqb, leb, ltb}
+use lib.Dec.{leb, ltb}
 use borrow.Author.Tests.{ltb-true, ltb-false, leb-true, lt-ltb, le-leb}
 use Rattle.ground.specs.Choose.{choose}
 use Rattle.ground.proofs.Choices.{and-left, and-right, both}
@@ -14,8 +14,7 @@ use Rattle.refusal.specs.declared.Refusal.the-variants.{NotAwaited, UnexpectedT
 use Rattle.frame.specs.declared.Header.{Header}
 use Rattle.frame.specs.Frame.{headerOf, lengthByte}
 use Rattle.board.specs.declared.Node.{Node}
-use Rattle.board.specs.Table.{at, put, listedAt}
-use Rattle.board.specs.Change.{heard, renewed, oweAll}
+use Rattle.board.specs.Table.{at, listedAt}
 use Rattle.routing.specs.Route.{routeOf}
 use Rattle.routing.proofs.Theorems.{route-suits}
 use Rattle.accept.specs.declared.Heard.the-variants.{Route}
@@ -24,17 +23,19 @@ use Rattle.nodelist.specs.List.{sameList}
 use Rattle.message.specs.Message.{signedFrame, ackCode}
 use Rattle.coordinator.specs.declared.Exchange.the-variants.{Offer, List as Listing, Forward, Return}
 use Rattle.coordinator.specs.declared.Phase.{Phase}
-use Rattle.coordinator.specs.declared.Phase.the-variants.{Resting, Awaiting, ForwardDue, ReturnDue, Unknown}
+use Rattle.coordinator.specs.declared.Phase.the-variants.{Resting, Awaiting, ForwardDue, ReturnDue, Seeking, Unknown}
 use Rattle.coordinator.specs.declared.Coordinator.{Coordinator}
 use Rattle.coordinator.specs.Phase.{phaseOf}
 use Rattle.coordinator.specs.Fit.{isRequest, isResponse, phaseFits, fits}
 use Rattle.coordinator.specs.Change.{withPhase, keeping}
 use Rattle.coordinator.proofs.Phases.{resting, forwarding, forward-due, return-due}
-use Rattle.coordinator.proofs.Fitting.{Carried, listed-told, phase-told, fits-in, awaited, awaited-forward}
+use Rattle.coordinator.proofs.Fitting.{Carried, phase-told, fits-in, awaited, awaited-forward}
 use Rattle.steps.specs.After.{refused, accepted, delivers, transmits}
-use Rattle.steps.specs.Receive.{payload, hear, hearAck, keptOf, acking, routed, heardIn, takenAs, takenIn, receiveRules, receiveIn, receiveOf}
-use Rattle.lasting.proofs.Tables.{heard-follows, renewed-follows}
-use Rattle.lasting.proofs.Keeps.{Keeps, accepted-keeps, Stays, refused-keeps, rules-keep, put-stays, owe-stays, table-fit, phase-keeps}
+use Rattle.steps.specs.Hear.{hear}
+use Rattle.steps.specs.Receive.{payload, hearAck, keptOf, acking, routed, heardIn, takenAs, takenIn, receiveRules, receiveIn, receiveOf}
+use Rattle.lasting.proofs.Keeps.{Keeps, accepted-keeps, Stays, refused-keeps, rules-keep, phase-keeps}
+use Rattle.lasting.proofs.Hear.{hear-stays, hear-ack-stays}
+use Rattle.lasting.proofs.Seek.{sought-keeps}
 use Rattle.lasting.proofs.Heard.{offer-heard, list-heard, forward-heard, return-heard}
 
 -- a request that is routed, and a response, are kept as fit asks
@@ -44,19 +45,7 @@ kept-request h p r low high few = both _ _ (both _ _ (both _ _ (both _ _ (lt-ltb
 kept-response : (h : Header) (p : List ℕ) → 129 ≤ h .message → length p ≤ 240 → isResponse (keptOf h p) ≡ true
 kept-response h p m few = both _ _ (lt-ltb 128 (h .message) (omega arith)) (le-leb (length p) 240 few)
 
--- a board that is heard stays listed, with the others
 module _ (c : Coordinator) (t : List Node) (h : fits c t ≡ true) (b : ℕ) (l : listedAt t b ≡ true) where
-  pub hear-stays : Stays (c .setup .k) t (hear t b)
-  hear-stays = put-stays (c .setup .k) t (table-fit c t h) b (heard (at t b)) (listed-told t b l) (heard-follows (at t b))
-
-  pub hear-ack-stays : (session : ℕ) → Stays (c .setup .k) t (hearAck t b session)
-  unfolding choose
-  hear-ack-stays session = go (eqb session (at t b .session))
-    where
-      go : (s : Bool) → Stays (c .setup .k) t (choose s (hear t b) (oweAll (put t b (renewed (heard (at t b)) session))))
-      go true = hear-stays
-      go false = owe-stays (c .setup .k) t (put t b (renewed (heard (at t b)) session)) (put-stays (c .setup .k) t (table-fit c t h) b (renewed (heard (at t b)) session) (listed-told t b l) (renewed-follows (at t b) session))
-
   -- where the ACK has room: what the coordinator is then fits the table in which the board is heard
   acking-keeps : (room : ℕ) (says : Told) (after : Coordinator) → after .setup ≡ c .setup → fits after (hear t b) ≡ true → says .number ≡ 0 → Keeps c t (acking c t b room says after)
   unfolding choose
@@ -69,7 +58,7 @@ module _ (c : Coordinator) (t : List Node) (h : fits c t ≡ true) (b : ℕ) (l 
   -- the wait ends
   ended : (u : List Node) → Stays (c .setup .k) t u → fits (withPhase c Resting) u ≡ true
   unfolding phaseFits
-  ended u s = phase-keeps c t h u s (c .kept) resting refl
+  ended u s = phase-keeps c t h u s (c .kept) resting refl refl
 
   -- a request that is routed is due to a listed board, for a listed one
   routed-fits : (f : Header) (p : List ℕ) → isRequest (keptOf f p) ≡ true → (method parameter : ℕ) → (fits (routed c f p b (routeOf t (c .setup .k) b method parameter)) (hear t b) ≡ true) × (routed c f p b (routeOf t (c .setup .k) b method parameter) .setup ≡ c .setup)
@@ -77,8 +66,8 @@ module _ (c : Coordinator) (t : List Node) (h : fits c t ≡ true) (b : ℕ) (l 
   routed-fits f p r method parameter = go (ltb 0 (routeOf t (c .setup .k) b method parameter)) refl
     where
       go : (s : Bool) → ltb 0 (routeOf t (c .setup .k) b method parameter) ≡ s → (fits (choose s (withPhase (keeping c (keptOf f p)) (ForwardDue (routeOf t (c .setup .k) b method parameter) b)) (withPhase c Resting)) (hear t b) ≡ true) × (choose s (withPhase (keeping c (keptOf f p)) (ForwardDue (routeOf t (c .setup .k) b method parameter) b)) (withPhase c Resting) .setup ≡ c .setup)
-      go true e = (phase-keeps c t h (hear t b) hear-stays (keptOf f p) (forward-due (routeOf t (c .setup .k) b method parameter) b) (both _ _ (route-suits t (c .setup .k) b method parameter (ltb-true 0 (routeOf t (c .setup .k) b method parameter) e) .0 .listed) (both _ _ l r)), refl)
-      go false e = (ended (hear t b) hear-stays, refl)
+      go true e = (phase-keeps c t h (hear t b) (hear-stays c t h b l) (keptOf f p) (forward-due (routeOf t (c .setup .k) b method parameter) b) (both _ _ (route-suits t (c .setup .k) b method parameter (ltb-true 0 (routeOf t (c .setup .k) b method parameter) e) .0 .listed) (both _ _ l r)) refl, refl)
+      go false e = (ended (hear t b) (hear-stays c t h b l), refl)
 
 -- what each wait hears
 module _ (c : Coordinator) (t : List Node) (h : fits c t ≡ true) (f : Header) (p : List ℕ) (few : length p ≤ 240) (room : ℕ) where
@@ -107,8 +96,8 @@ module _ (c : Coordinator) (t : List Node) (h : fits c t ≡ true) (f : Header) 
   unfolding phaseFits
   taken-forward b q a e =
       forward-heard (λ x. Keeps c t (takenAs x Forward b q c t f p room)) (refused-keeps c t UnexpectedType refl) (f .message) (c .kept .message) (isAck (at t b .mac) p) a
-      (λ first. accepted-keeps c t _ (phase-keeps c t h _ (hear-ack-stays c t h b l (ackSession p)) (c .kept) (forwarding b q true) (both _ _ l (both _ _ (carried .requester .listed) (carried .request)))) refl refl)
-      (λ type. acking-keeps c t h b l room transmits (withPhase (keeping c (keptOf f p)) (ReturnDue q)) refl (phase-keeps c t h _ (hear-stays c t h b l) (keptOf f p) (return-due q) (both _ _ (carried .requester .listed) (kept-response f p (omega (arith, phase-told t (c .kept) (Awaiting b Forward q a) (fits-in c t h e) .1 .message .from)) few))) refl)
+      (λ first. accepted-keeps c t _ (phase-keeps c t h _ (hear-ack-stays c t h b l (ackSession p)) (c .kept) (forwarding b q true) (both _ _ l (both _ _ (carried .requester .listed) (carried .request))) refl) refl refl)
+      (λ type. acking-keeps c t h b l room transmits (withPhase (keeping c (keptOf f p)) (ReturnDue q)) refl (phase-keeps c t h _ (hear-stays c t h b l) (keptOf f p) (return-due q) (both _ _ (carried .requester .listed) (kept-response f p (omega (arith, phase-told t (c .kept) (Awaiting b Forward q a) (fits-in c t h e) .1 .message .from)) few)) refl) refl)
     where
       carried : Carried c t b q
       carried = awaited-forward c t h e
@@ -127,6 +116,7 @@ module _ (c : Coordinator) (t : List Node) (h : fits c t ≡ true) (f : Header) 
   taken-keeps (Awaiting b Return q a) e = taken-return b q a (awaited c t h e .listed)
   taken-keeps (ForwardDue b q) e = refused-keeps c t NotAwaited refl
   taken-keeps (ReturnDue b) e = refused-keeps c t NotAwaited refl
+  taken-keeps (Seeking position part) e = sought-keeps c t h position f p room part e
   taken-keeps Unknown e = refused-keeps c t NotAwaited refl
 
 -- the payload of what passed the reader is short enough to keep

@@ -19,7 +19,7 @@ use Rattle.board.specs.Node.{none}
 use Rattle.coordinator.specs.declared.Coordinator.{Coordinator}
 use Rattle.coordinator.specs.Fit.{fits}
 use Rattle.steps.specs.declared.Event.{Event}
-use Rattle.steps.specs.declared.Event.the-variants.{Join, Turn, Frame, Quiet}
+use Rattle.steps.specs.declared.Event.the-variants.{Join, Turn, Frame, Quiet, Discover}
 use Rattle.steps.specs.declared.Outcome.{Outcome}
 use Rattle.steps.specs.declared.Stepped.{Stepped}
 use Rattle.steps.specs.After.{After, Shown, shown, shows, refused, rests}
@@ -28,6 +28,7 @@ use Rattle.steps.specs.Join.{joinOf}
 use Rattle.steps.specs.Turn.{turnIn}
 use Rattle.steps.specs.Receive.{receiveIn}
 use Rattle.steps.specs.Quiet.{quietIn}
+use Rattle.steps.specs.Discover.{discoverOf}
 use Rattle.steps.specs.Step.{stepOf}
 use Rattle.steps.proofs.Shows.{same-shown}
 use Rattle.lent.specs.declared.Amended.{Amended}
@@ -81,11 +82,12 @@ first-rule : (c : Coordinator) (ys : List Node) (b : Bool) (rest : After) → b 
 first-rule c ys b rest h = sym (choose-yes _ _ _ _ (not-yes b h) refl)
 
 pub unfit-step : (c : Coordinator) (ys : List Node) (event : Event) (b : List ℕ) (room : ℕ) → eqb (length ys) 40 ≡ false → stepOf c ys event b room ≡ refused c ys StateUnfit
-unfolding joinOf turnIn receiveIn quietIn
+unfolding joinOf turnIn receiveIn quietIn discoverOf
 unfit-step c ys (Join kind mac session) b room h = first-rule c ys (fits c ys) _ (unfit c ys h)
 unfit-step c ys Turn b room h = first-rule c ys (fits c ys) _ (unfit c ys h)
 unfit-step c ys Frame b room h = first-rule c ys (fits c ys) _ (unfit c ys h)
 unfit-step c ys Quiet b room h = first-rule c ys (fits c ys) _ (unfit c ys h)
+unfit-step c ys Discover b room h = first-rule c ys (fits c ys) _ (unfit c ys h)
 
 pub unfit-setup : (c : Coordinator) (ys : List Node) (addresses : List ℕ) (subnet internal mac session : ℕ) → eqb (length ys) 40 ≡ false → startOf c ys addresses subnet internal mac session ≡ refused c ys StateUnfit
 unfolding startOf

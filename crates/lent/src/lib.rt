@@ -7,11 +7,12 @@ use refusal::Refusal;
 use steps::Answer;
 use steps::Event;
 use steps::Outcome;
+use steps::Seek;
 use steps::Stepped;
 ghost use mathlib.Core.Path.{_≡_};
 ghost use lib.ListN.{length};
 ghost use Rattle.ground.specs.Bytes.{laid};
-ghost use Rattle.steps.specs.After.{shown, shows, told, exchangeNumber};
+ghost use Rattle.steps.specs.After.{shown, shows, told, exchangeNumber, seekNumber};
 ghost use Rattle.lent.specs.Lent.{countedStep, countedSetup};
 ghost use Rattle.refusal.specs.Refusal.{refuses};
 ghost use Rattle.lent.specs.Numbers.{eventOf, saying, packed};
@@ -138,6 +139,9 @@ pub fn event_of(number: u8, kind: u8, mac: u64, session: u64) -> Event
     if number == 4 {
         return Event::Quiet;
     }
+    if number == 5 {
+        return Event::Discover;
+    }
     Event::Join {
         kind: 0,
         mac: mac,
@@ -157,12 +161,24 @@ fn exchange_number(exchange: Exchange) -> u8
     }
 }
 
+// The number of a wait in the exchange by which a board joins.
+fn seek_number(seek: Seek) -> u8
+    ensures { λ r. ⌜ r ≡ seekNumber seek ⌝ }
+{
+    match seek {
+        Seek::Search => 5,
+        Seek::Identify => 6,
+        Seek::Assign => 7,
+    }
+}
+
 // What an answer says, in four bytes.
 fn saying(answer: Answer) -> [u8; 4]
     ensures { λ r. ⌜ r ≡ saying (told answer) ⌝ }
 {
     match answer {
         Answer::Wait(board, exchange) => [0, 1, (board % 256) as u8, exchange_number(exchange)],
+        Answer::Seek(position, seek) => [0, 1, (position % 256) as u8, seek_number(seek)],
         Answer::Deliver => [0, 2, 0, 0],
         Answer::Transmit => [0, 3, 0, 0],
         Answer::Rest => [0, 4, 0, 0],

@@ -24,7 +24,7 @@ use Rattle.setup.specs.declared.Setup.{Setup}
 use Rattle.setup.specs.Setup.{address}
 use Rattle.nodelist.specs.List.{nodeList}
 use Rattle.nodelist.proofs.Theorems.{at-most}
-use Rattle.message.specs.Message.{toBoard, ownHeader, signed, listHeader, signedFrame, listFrame, ackCode}
+use Rattle.message.specs.Message.{toBoard, ownHeader, signed, listHeader, signedFrame, listFrame, ackCode, broadcastHeader, discoveryHeader, everyKind, identifyHeader, assignHeader, assignment}
 
 -- a header of our own is one sent to the board
 pub own-to-board : (s : Setup) (t : List Node) (board message packet : ℕ) → ownHeader s t board message packet ≡ toBoard s board (ownHeader s t board message packet)
@@ -35,6 +35,11 @@ own-to-board s t board message packet = refl
 pub own-fields : (s : Setup) (t : List Node) (board message packet : ℕ) → fields (ownHeader s t board message packet) ≡ address s board ∷ 255 ∷ s .subnet ∷ 0 ∷ 0 ∷ indexOf t board ∷ 165 ∷ message ∷ packet ∷ []
 unfolding ownHeader
 own-fields s t board message packet = refl
+
+-- the nine bytes of a broadcast's header
+pub broadcast-fields : (message packet : ℕ) → fields (broadcastHeader message packet) ≡ 0 ∷ 255 ∷ 0 ∷ 0 ∷ 0 ∷ 0 ∷ 165 ∷ message ∷ packet ∷ []
+unfolding broadcastHeader
+broadcast-fields message packet = refl
 
 -- an offer and an ACK have a payload of 17 bytes, and 29 in all
 pub signed-size : (s : Setup) (code : ℕ) → length (signed s code) ≡ 17
@@ -53,6 +58,24 @@ list-small internal t = omega (arith, at-most internal t)
 
 pub list-long : (s : Setup) (t : List Node) (board : ℕ) → length (listFrame s t board) ≤ 53
 list-long s t board = omega (arith, long (listHeader s t board) (nodeList (s .internal) t), at-most (s .internal) t)
+
+-- an assignment has 19 bytes
+pub assignment-size : (s : Setup) (position mac session : ℕ) → length (assignment s position mac session) ≡ 19
+unfolding assignment
+assignment-size s position mac session = simp (length-append, length-bytes)
+
+pub assignment-small : (s : Setup) (position mac session : ℕ) → length (assignment s position mac session) ≤ 240
+assignment-small s position mac session = omega (arith, assignment-size s position mac session)
+
+-- so the frames of the exchange by which a board joins have 13, 12 and 31
+pub discovery-long : length (frameOf discoveryHeader everyKind) ≡ 13
+discovery-long = long discoveryHeader everyKind
+
+pub identify-long : (s : Setup) (t : List Node) (position : ℕ) → length (frameOf (identifyHeader s t position) []) ≡ 12
+identify-long s t position = long (identifyHeader s t position) []
+
+pub assign-long : (s : Setup) (position mac session : ℕ) → length (frameOf assignHeader (assignment s position mac session)) ≡ 31
+assign-long s position mac session = long assignHeader (assignment s position mac session) ∙ ap (λ (n : ℕ). 12 + n) (assignment-size s position mac session)
 
 -- of a payload that is not too long, a writer can only be given 11
 pub only-room {ℓ} : {A : Type ℓ} (p : List ℕ) (room : ℕ) (refusing : Refusal → A) (value : A) → length p ≤ 240 → ruled (writeRules p room) refusing value ≡ choose (ltb room (12 + length p)) (refusing NoRoom) value

@@ -13,6 +13,9 @@ use Rattle.setup.specs.declared.Setup.{Setup}
 use Rattle.message.proofs.write_to.Reads as write-to
 use Rattle.message.proofs.write_signed.Reads as write-signed
 use Rattle.message.proofs.write_list.Reads as write-list
+use Rattle.message.proofs.write_discovery.Reads as write-discovery
+use Rattle.message.proofs.write_identify.Reads as write-identify
+use Rattle.message.proofs.write_assign.Reads as write-assign
 
 -- what is told and left is one where it is said to be one
 outcome : {told : Told} {left : List ℕ} (r q : Writing) {a b : List ℕ} → (toldWritten r ≡ told) × (a ≡ left) → (toldWritten q ≡ told) × (b ≡ left) → (r ≡ q) × (a ≡ b)
@@ -28,6 +31,9 @@ Signed = Setup × (Table × (ℕ × (ℕ × (RefT (List ℕ) × Unit {0}))))
 abbrev Listed : Type 0
 Listed = Setup × (Table × (ℕ × (RefT (List ℕ) × Unit {0})))
 
+abbrev Assigned : Type 0
+Assigned = Setup × (ℕ × (ℕ × (ℕ × (RefT (List ℕ) × Unit {0}))))
+
 pub unique-write-to : (κs : _) (a s t : To) (r q : Writing) → write-to.Post κs a r s → write-to.Post κs a q t → (r ≡ q) × (now (s .1 .1 .1 .1 .0) ≡ now (t .1 .1 .1 .1 .0))
 unique-write-to κs a s t r q p p′ = outcome r q p p′
 
@@ -36,3 +42,12 @@ unique-write-signed κs a s t r q p p′ = outcome r q p p′
 
 pub unique-write-list : (κs : _) (a s t : Listed) (r q : Writing) → write-list.Post κs a r s → write-list.Post κs a q t → (r ≡ q) × (now (s .1 .1 .1 .0) ≡ now (t .1 .1 .1 .0))
 unique-write-list κs a s t r q p p′ = outcome r q p p′
+
+pub unique-write-discovery : (κs : _) (a s t : RefT (List ℕ) × Unit {0}) (r q : Writing) → write-discovery.Post κs a r s → write-discovery.Post κs a q t → (r ≡ q) × (now (s .0) ≡ now (t .0))
+unique-write-discovery κs a s t r q p p′ = outcome r q p p′
+
+pub unique-write-identify : (κs : _) (a s t : Listed) (r q : Writing) → write-identify.Post κs a r s → write-identify.Post κs a q t → (r ≡ q) × (now (s .1 .1 .1 .0) ≡ now (t .1 .1 .1 .0))
+unique-write-identify κs a s t r q p p′ = outcome r q p p′
+
+pub unique-write-assign : (κs : _) (a s t : Assigned) (r q : Writing) → write-assign.Post κs a r s → write-assign.Post κs a q t → (r ≡ q) × (now (s .1 .1 .1 .1 .0) ≡ now (t .1 .1 .1 .1 .0))
+unique-write-assign κs a s t r q p p′ = outcome r q p p′

@@ -1,7 +1,7 @@
--- The frames that the panel itself writes (01, "Turn", "Frame" and "Forward and return"; 003, sections 4.3, 5.14 and 6.1).
+-- The frames that the panel itself writes (01, "Turn", "Frame" and "Forward and return"; 02, C-11; 003, sections 4.3, 5.14, 6.1 and 6.6 to 6.8).
 use Prim.Native.Nat.{ℕ}
 use mathlib.Core.Path.{_≡_}
-use mathlib.Core.List.{List, _∷_, _++_}
+use mathlib.Core.List.{List, [], _∷_, _++_}
 use lib.ListN.{length}
 use Rattle.ground.specs.Bytes.{laid}
 use Rattle.frame.specs.declared.Header.{Header}
@@ -71,6 +71,41 @@ signedFrame s t board code = frameOf (signedHeader s t board) (signed s code)
 -- the node list to a board
 abbrev pub listFrame : Setup → List Node → ℕ → List ℕ
 listFrame s t board = frameOf (listHeader s t board) (nodeList (s .internal) t)
+
+-- the header of a broadcast of the exchange by which a board joins: destination 0, subnet 0, method 0, parameters 0 (02, C-11; 003, 6.6 and 6.7)
+unfoldable pub broadcastHeader : ℕ → ℕ → Header
+broadcastHeader message packet =
+    record {
+      destination = 0;
+      source = 255;
+      subnet = 0;
+      method = 0;
+      parameter1 = 0;
+      parameter2 = 0;
+      kind = 165;
+      message = message;
+      packet = packet;
+    }
+
+-- Node Discovery is message 0x79, packet number 0x20: the version bit (003, Table 57 and 4.3)
+abbrev pub discoveryHeader : Header
+discoveryHeader = broadcastHeader 121 32
+
+-- its payload: every node type (003, Table 57: Node ID Filter)
+abbrev pub everyKind : List ℕ
+everyKind = 0 ∷ []
+
+-- Get Node ID is message 0x7B, packet number 0, without a payload; it goes to the address at stake (003, Table 61)
+abbrev pub identifyHeader : Setup → List Node → ℕ → Header
+identifyHeader s t position = ownHeader s t position 123 0
+
+-- Set Address is message 0x7A, packet number 0 (003, Table 59)
+abbrev pub assignHeader : Header
+assignHeader = broadcastHeader 122 0
+
+-- its payload: the address at stake, our subnet, MAC and session of whom it is for, 1 (003, Table 59; 02, C-11)
+unfoldable pub assignment : Setup → ℕ → ℕ → ℕ → List ℕ
+assignment s position mac session = address s position ∷ s .subnet ∷ bytesOf 8 mac ++ (bytesOf 8 session ++ 1 ∷ [])
 
 -- a writer answers as the frame's writer does for this header and payload, and leaves the same output (01, "Order": "Writer 10, 11")
 abbrev pub Sends : Header → List ℕ → Writing → List ℕ → List ℕ → Type 0

@@ -1,11 +1,13 @@
-// The frames that the panel itself writes: the offer and the ACK, the node list, and what it carries from board to board.
+// The frames that the panel itself writes: the offer and the ACK, the node list, what it carries from board to board, and
+// those of the exchange by which a board joins.
 use board::Table;
 use frame::Header;
 use frame::Writing;
 use setup::Setup;
 ghost use mathlib.Core.Path.{_≡_};
+ghost use mathlib.Core.List.{[]};
 ghost use Rattle.nodelist.specs.List.{nodeList};
-ghost use Rattle.message.specs.Message.{toBoard, ownHeader, signed, signedHeader, listHeader, Sends};
+ghost use Rattle.message.specs.Message.{toBoard, ownHeader, signed, signedHeader, listHeader, broadcastHeader, discoveryHeader, everyKind, identifyHeader, assignHeader, assignment, Sends};
 
 // A header sent to a board: to its address, from us, in our subnet.
 fn to_board(setup: Setup, board: usize, header: Header) -> Header
@@ -101,4 +103,81 @@ pub fn write_list(setup: Setup, table: Table, board: usize, out: &mut [u8]) -> W
     nodelist::write_list(setup.internal, table, &mut payload);
     let n = nodelist::list_length(table);
     write_own(setup, table, board, 0x14, 0, &payload[..n], out)
+}
+
+// Writes a broadcast of the exchange by which a board joins.
+fn write_broadcast(message: u8, packet: u8, payload: &[u8], out: &mut [u8]) -> Writing
+    ensures { λ r. ⌜ Sends (broadcastHeader message packet) (now (payload .entry)) r (now (out .entry)) (now (out .exit)) ⌝ }
+{
+    let header = Header {
+        destination: 0,
+        source: 255,
+        subnet: 0,
+        method: 0,
+        parameter1: 0,
+        parameter2: 0,
+        kind: 165,
+        message: message,
+        packet: packet,
+    };
+    frame::write(header, payload, out)
+}
+
+// Writes Node Discovery, to every node type.
+pub fn write_discovery(out: &mut [u8]) -> Writing
+    ensures { λ r. ⌜ Sends discoveryHeader everyKind r (now (out .entry)) (now (out .exit)) ⌝ }
+{
+    let payload = [0u8; 1];
+    write_broadcast(0x79, 0x20, &payload, out)
+}
+
+// Writes Get Node ID to the address of a position.
+pub fn write_identify(setup: Setup, table: Table, position: usize, out: &mut [u8]) -> Writing
+    ensures { λ r. ⌜ Sends (identifyHeader setup (table .nodes) position) [] r (now (out .entry)) (now (out .exit)) ⌝ }
+{
+    let payload = [0u8; 1];
+    write_own(setup, table, position, 0x7B, 0, &payload[..0], out)
+}
+
+// The address of a position, our subnet, then the MAC and the session of whom it is for, and 1.
+fn assignment_bytes(setup: Setup, position: usize, mac: u64, session: u64) -> [u8; 19]
+    ensures { λ r. ⌜ r ≡ assignment setup position mac session ⌝ }
+{
+    let m = word::bytes_of(mac);
+    let s = word::bytes_of(session);
+    [
+        setup::address_at(setup, position),
+        setup.subnet,
+        m[0],
+        m[1],
+        m[2],
+        m[3],
+        m[4],
+        m[5],
+        m[6],
+        m[7],
+        s[0],
+        s[1],
+        s[2],
+        s[3],
+        s[4],
+        s[5],
+        s[6],
+        s[7],
+        1,
+    ]
+}
+
+// Writes Set Address: who has this MAC and this session shall have the address of a position.
+pub fn write_assign(
+    setup: Setup,
+    position: usize,
+    mac: u64,
+    session: u64,
+    out: &mut [u8],
+) -> Writing
+    ensures { λ r. ⌜ Sends assignHeader (assignment setup position mac session) r (now (out .entry)) (now (out .exit)) ⌝ }
+{
+    let payload = assignment_bytes(setup, position, mac, session);
+    write_broadcast(0x7A, 0, &payload, out)
 }

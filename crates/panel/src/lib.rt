@@ -81,7 +81,7 @@ pub fn setup(
     r.outcome
 }
 
-// The panel's step, in place. Received bytes are looked at by the event Frame alone, and the output is written by Turn and Frame alone.
+// The panel's step, in place. Received bytes are looked at by the event Frame alone, and the output is written by Turn, Frame and Discover alone.
 pub fn step(
     coordinator: &mut Coordinator,
     nodes: &mut [Node],

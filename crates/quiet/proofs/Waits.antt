@@ -1,14 +1,13 @@
 -- What quiet does, case by case.
 use Prim.Native.Nat.{ℕ, _≤_, _<_}
 use mathlib.Core.Path.{_≡_, refl, sym, ap, _∙_}
-use mathlib.Core.Logic.{inl, inr}
-use mathlib.Core.Bool.{Bool, true, false}
+use mathlib.Core.Bool.{Bool, true, false, not}
 use mathlib.Core.List.{List, [], _∷_}
-use native.Mathlib.Omega.{arith}
-use types.Run.{OneOf}
+use types.Run.{OneOf, miss}
 use denote.Enum.Declared.{tagOf}
 use lib.Dec.{ltb}
 use borrow.Author.Tests.{lt-ltb, le-ltb}
+use Rattle.ground.specs.Choose.{choose}
 use Rattle.ground.proofs.Choices.{choose-yes, choose-no, not-yes, not-no}
 use Rattle.refusal.specs.declared.Refusal.the-variants.{StateUnfit, NotWaiting}
 use Rattle.board.specs.declared.Node.{Node}
@@ -16,28 +15,29 @@ use Rattle.board.specs.Table.{at, put}
 use Rattle.board.specs.Change.{missed}
 use Rattle.coordinator.specs.declared.Coordinator.{Coordinator}
 use Rattle.coordinator.specs.declared.Exchange.{Exchange}
+use Rattle.coordinator.specs.declared.Part.{Part}
+use Rattle.coordinator.specs.declared.Part.the-variants.{Search, IdentifyDue, Identify, Present, AssignDue, Assign}
 use Rattle.coordinator.specs.declared.Phase.{Phase}
-use Rattle.coordinator.specs.declared.Phase.the-variants.{Resting, Awaiting, ForwardDue, ReturnDue, Unknown}
+use Rattle.coordinator.specs.declared.Phase.the-variants.{Resting, Awaiting, ForwardDue, ReturnDue, Seeking, Unknown}
 use Rattle.coordinator.proofs.Phase.{the-type}
 use Rattle.coordinator.specs.Phase.{phaseOf}
 use Rattle.coordinator.specs.Fit.{fits}
 use Rattle.coordinator.specs.Change.{withPhase}
-use Rattle.steps.specs.After.{shows, refused, resting}
+use Rattle.steps.specs.After.{refused, resting}
+use Rattle.steps.specs.Seek.{isWaiting, quietInSeek}
 use Rattle.steps.specs.Turn.{isAwaiting}
 use Rattle.steps.specs.Quiet.{stillHeld, droppedAt, missedAt, quietValue, quietIn, quietOf}
 
 pub same-held : {c d : Coordinator} {t u : List Node} → c ≡ d → t ≡ u → stillHeld c t ≡ stillHeld d u
 same-held e f = λ i. stillHeld (e i) (f i)
 
--- the variants but the second, which is the wait: what the other arm of a match on the phase is told
-pub no-wait : (p : Phase) → OneOf (0 ∷ 2 ∷ 3 ∷ 4 ∷ []) (tagOf the-type p) → isAwaiting p ≡ false
+-- the variants but the second and the fifth, the wait and the exchange by which a board joins: what the other arm of a match on the phase is told
+pub no-wait : (p : Phase) → OneOf (0 ∷ 2 ∷ 3 ∷ 5 ∷ []) (tagOf the-type p) → isAwaiting p ≡ false
 no-wait Resting h = refl
-no-wait (Awaiting b e q a) (inl h) = absurd (let z : ⊥ = omega arith in z)
-no-wait (Awaiting b e q a) (inr (inl h)) = absurd (let z : ⊥ = omega arith in z)
-no-wait (Awaiting b e q a) (inr (inr (inl h))) = absurd (let z : ⊥ = omega arith in z)
-no-wait (Awaiting b e q a) (inr (inr (inr h))) = absurd (let z : ⊥ = omega arith in z)
+no-wait (Awaiting b e q a) h = absurd (miss (0 ∷ 2 ∷ 3 ∷ 5 ∷ []) 1 tt h)
 no-wait (ForwardDue b q) h = refl
 no-wait (ReturnDue b) h = refl
+no-wait (Seeking position part) h = absurd (miss (0 ∷ 2 ∷ 3 ∷ 5 ∷ []) 4 tt h)
 no-wait Unknown h = refl
 
 module _ (c : Coordinator) (t : List Node) where
@@ -69,3 +69,16 @@ module _ (c : Coordinator) (t : List Node) where
 
       pub unanswered : a ≡ false → quietOf c t ≡ missedAt c t b
       unanswered k = waited ∙ sym (choose-no _ _ _ _ k refl)
+
+    -- quiet in the exchange by which a board joins; where a transmission of it is due nothing is waited for, and the rules and the exchange both give 20
+    pub in-exchange : {position : ℕ} {part : Part} → phaseOf (c .stand) ≡ Seeking position part → quietOf c t ≡ quietInSeek part position c t
+    unfolding quietIn choose
+    in-exchange {position} {part} w = ap (λ (p : Phase). quietIn p c t) w ∙ sym (choose-no _ _ _ _ (not-no (fits c t) h) (either-way part))
+      where
+        either-way : (p : Part) → quietInSeek p position c t ≡ choose (not (isWaiting p)) (refused c t NotWaiting) (quietInSeek p position c t)
+        either-way Search = refl
+        either-way IdentifyDue = refl
+        either-way Identify = refl
+        either-way Present = refl
+        either-way AssignDue = refl
+        either-way Assign = refl

@@ -43,7 +43,7 @@ fn miss_at(coordinator: Coordinator, table: Table, board: usize) -> Stepped
     }
 }
 
-// The wait ends. It is a miss, unless the ACK to a forward has come.
+// The wait ends. It is a miss, unless the ACK to a forward has come, or it was in the exchange by which a board joins.
 pub fn quiet(coordinator: Coordinator, table: Table) -> Stepped
     ensures { λ r. ⌜ shown r ≡ shows (quietOf coordinator (table .nodes)) ⌝ }
 {
@@ -65,6 +65,7 @@ pub fn quiet(coordinator: Coordinator, table: Table) -> Stepped
                 miss_at(coordinator, table, board)
             }
         }
+        Phase::Seeking { position, part } => seek::quieted(part, position, coordinator, table),
         _ => steps::refusing(coordinator, table, Refusal::NotWaiting),
     }
 }

@@ -1,51 +1,60 @@
 -- What the parts of the step leave, by what their tests and calls gave.
 use Rattle.steps.proofs.Shows.{leaves-as}
+use Rattle.steps.proofs.Writes.{shownAs, leaves-ack-written}
 use Prim.Native.Nat.{ℕ, _+_, _-_, _≤_}
 use native.Mathlib.Omega.{arith}
-use mathlib.Core.Path.{_≡_, refl, sym, ap, subst, _∙_}
-use mathlib.Core.Bool.{Bool, true, false, not}
+use mathlib.Core.Path.{_≡_, refl, sym, ap, _∙_}
+use mathlib.Core.Bool.{Bool, true, false, _&&_, not}
 use mathlib.Core.List.{List, [], _∷_, _++_}
 use lib.ListN.{length, length-take, take, drop}
-use lib.Dec.{ltb}
+use lib.Dec.{eqb}
 use borrow.Author.Tests.{eq-eqb, ne-eqb}
 use types.Run.{OneOf, miss}
 use denote.Enum.Declared.{tagOf}
-use Rattle.ground.specs.Bytes.{laid}
-use Rattle.ground.specs.Choose.{choose}
 use Rattle.ground.proofs.Choices.{choose-yes, choose-no, not-yes, not-no}
-use Rattle.refusal.specs.Refusal.{Told, refuses, gives}
+use Rattle.refusal.specs.Refusal.{Told}
 use Rattle.refusal.specs.declared.Refusal.{Refusal}
-use Rattle.refusal.specs.declared.Refusal.the-variants.{StateUnfit, NotForUs, NotAwaited, NoRoom}
+use Rattle.refusal.specs.declared.Refusal.the-variants.{StateUnfit, NotForUs, NotDiscovering, NotAwaited}
 use Rattle.refusal.proofs.Rules.{Passed, passed, gave, refused as refused-for}
 use Rattle.frame.specs.declared.Header.{Header}
 use Rattle.frame.specs.declared.Reading.{Reading}
 use Rattle.frame.specs.declared.Reading.the-variants.{Frame, Refused as NotRead}
 use Rattle.frame.specs.declared.Writing.{Writing}
 use Rattle.frame.specs.declared.Writing.the-variants.{Written, Refused as NotWritten}
-use Rattle.frame.specs.Frame.{fields, headerOf, lengthByte, readRules, reading, payloadOf, told, toldWritten}
-use Rattle.frame.proofs.Told.{same-written, WellRead, read-frame}
+use Rattle.frame.specs.Frame.{fields, headerOf, lengthByte, readRules, reading, payloadOf, told}
+use Rattle.frame.proofs.Told.{WellRead, read-frame}
 use Rattle.board.specs.declared.Node.{Node}
+use Rattle.board.specs.Change.{heard, renewed}
+use Rattle.setup.specs.declared.Setup.{Setup}
 use Rattle.setup.specs.Setup.{address}
 use Rattle.message.specs.Message.{signedHeader, signed, signedFrame, ackCode, Sends}
-use Rattle.message.proofs.Messages.{signed-size, signed-long, signed-small, writing-small, written-small}
 use Rattle.coordinator.specs.declared.Coordinator.{Coordinator}
 use Rattle.coordinator.proofs.Exchange as exchange
 use Rattle.coordinator.specs.declared.Exchange.{Exchange}
 use Rattle.coordinator.specs.declared.Exchange.the-variants.{Offer, List as Listing, Forward, Return}
+use Rattle.coordinator.proofs.Part as parts
+use Rattle.coordinator.specs.declared.Part.{Part}
+use Rattle.coordinator.specs.declared.Part.the-variants.{Search, IdentifyDue, Identify, Present, AssignDue, Assign}
 use Rattle.coordinator.proofs.Phase as phase
 use Rattle.coordinator.specs.declared.Phase.{Phase}
-use Rattle.coordinator.specs.declared.Phase.the-variants.{Resting, Awaiting, ForwardDue, ReturnDue, Unknown}
+use Rattle.coordinator.specs.declared.Phase.the-variants.{Resting, Awaiting, ForwardDue, ReturnDue, Seeking, Unknown}
 use Rattle.coordinator.specs.Phase.{phaseOf}
 use Rattle.coordinator.specs.Fit.{fits}
 use Rattle.coordinator.specs.Change.{withPhase}
 use Rattle.steps.specs.declared.Stepped.{Stepped}
 use Rattle.steps.specs.After.{After, Shown, shown, shows, leaving, refused, accepted, rests, Leaves}
-use Rattle.steps.specs.Receive.{hear, acking, acked, heardIn, takenAs, payload, receiveIn, receiveOf}
+use Rattle.steps.specs.Hear.{hear}
+use Rattle.steps.specs.Seek.{isWaiting, sourceIn}
+use Rattle.steps.specs.Receive.{awaits, isStray, acking, acked, takenIn, payload, receiveIn, receiveOf}
 use Rattle.receive.specs.Parts.{waited, listened}
 
 -- a refusal leaves the output as it was
 pub leaves-refused : (r : Stepped) (o : List ℕ) (c : Coordinator) (t : List Node) (q : Refusal) {a : After} → a ≡ refused c t q → shown r ≡ shows (refused c t q) → Leaves a r o o
 leaves-refused r o c t q e h = leaves-as r o o e (h, refl)
+
+-- a board that is heard with the session on record keeps it
+pub same-session : (n : Node) (session : ℕ) → session ≡ n .session → renewed (heard n) session ≡ heard n
+same-session n session e = rw e refl
 
 -- an ACK ends each wait but a forward's
 pub acked-ends : (e : Exchange) (board requester : ℕ) (c : Coordinator) (t : List Node) → OneOf (0 ∷ 1 ∷ 3 ∷ []) (tagOf exchange.the-type e) → acked e board requester c t ≡ accepted (withPhase c Resting) t rests []
@@ -72,53 +81,70 @@ ackShown (NotWritten q) c t nodes says after = shows (refused c t q)
 -- of the writing of an ACK only 11 can be given, and its frame has 29 bytes
 module _ (c : Coordinator) (t : List Node) (board : ℕ) (says : Told) (after : Coordinator) (r : Stepped) (before left : List ℕ) where
   pub leaves-acked : (w : Writing) → Sends (signedHeader (c .setup) t board) (signed (c .setup) ackCode) w before left → shown r ≡ ackShown w c t (hear t board) says after → Leaves (acking c t board (length before) says after) r before left
-  unfolding choose
-  leaves-acked w s e =
-      go (ltb (length before) 29)
-      (s .0 ∙ writing-small payload (length before) (signed-small (c .setup) ackCode) ∙ ap (λ (n : ℕ). choose (ltb (length before) n) (refuses NoRoom) (gives (n ∷ []))) size)
-      (s .1 ∙ ap (λ (b : List ℕ). laid b before) (written-small (signedHeader (c .setup) t board) payload (length before) (signed-small (c .setup) ackCode) ∙ ap (λ (n : ℕ). choose (ltb (length before) n) [] bytes) size))
+  leaves-acked w s e = leaves-ack-written (c .setup) t board c t (accepted after (hear t board) says (signedFrame (c .setup) t board ackCode)) refl r before left w s (e ∙ as-written w)
     where
-      payload : List ℕ
-      payload = signed (c .setup) ackCode
+      as-written : (v : Writing) → ackShown v c t (hear t board) says after ≡ shownAs v c t (accepted after (hear t board) says (signedFrame (c .setup) t board ackCode))
+      as-written (Written n) = refl
+      as-written (NotWritten q) = refl
 
-      bytes : List ℕ
-      bytes = signedFrame (c .setup) t board ackCode
+-- in every part but search the source awaited is the address at stake
+pub source-at-stake : (part : Part) (s : Setup) (position : ℕ) → OneOf (1 ∷ 2 ∷ 3 ∷ 4 ∷ 5 ∷ []) (tagOf parts.the-type part) → sourceIn part s position ≡ address s position
+source-at-stake Search s position k = absurd (miss (1 ∷ 2 ∷ 3 ∷ 4 ∷ 5 ∷ []) 0 tt k)
+source-at-stake IdentifyDue s position k = refl
+source-at-stake Identify s position k = refl
+source-at-stake Present s position k = refl
+source-at-stake AssignDue s position k = refl
+source-at-stake Assign s position k = refl
 
-      size : 12 + length payload ≡ 29
-      size = ap (λ (n : ℕ). 12 + n) (signed-size (c .setup) ackCode)
+-- the source is tested against the address of the board, or against what the part awaits
+module _ (s : Setup) (source : ℕ) where
+  pub board-tested : (e : Exchange) (board requester : ℕ) (a : Bool) {n : ℕ} → n ≡ address s board → not (awaits (Awaiting board e requester a) s source) ≡ not (eqb source n)
+  board-tested e board requester a q = rw q refl
 
-      go : (b : Bool) → toldWritten w ≡ choose b (refuses NoRoom) (gives (29 ∷ [])) → left ≡ laid (choose b [] bytes) before → Leaves (choose b (refused c t NoRoom) (accepted after (hear t board) says bytes)) r before left
-      go true h l = (e ∙ ap (λ (v : Writing). ackShown v c t (hear t board) says after) (same-written w (NotWritten NoRoom) h), l)
-      go false h l = (e ∙ ap (λ (v : Writing). ackShown v c t (hear t board) says after) (same-written w (Written 29) h) ∙ ap (λ (n : ℕ). leaving after (hear t board) says n 0 0) (sym (signed-long (c .setup) t board ackCode)), l)
+  pub part-tested : (part : Part) (position : ℕ) {w : Bool} {n : ℕ} → w ≡ isWaiting part → n ≡ sourceIn part s position → not (awaits (Seeking position part) s source) ≡ not (w && eqb source n)
+  part-tested part position e q = rw (e, q) refl
 
 module _ (c : Coordinator) (t : List Node) (h : Header) (p : List ℕ) (room : ℕ) where
   -- a frame in a wait: 6 from another source
-  module _ (e : Exchange) (board requester : ℕ) (a : Bool) {n : ℕ} (at : n ≡ address (c .setup) board) where
-    pub waited-other : (h .source ≡ n → ⊥) → waited e board requester a c t h p room ≡ refused c t NotAwaited
+  module _ (w : Phase) where
+    pub waited-other : not (awaits w (c .setup) (h .source)) ≡ true → waited w c t h p room ≡ refused c t NotAwaited
     unfolding waited
-    waited-other ne = sym (choose-yes _ _ _ _ (not-yes _ (ne-eqb _ _ (λ q. ne (q ∙ sym at)))) refl)
+    waited-other k = sym (choose-yes _ _ _ _ k refl)
 
-    pub waited-board : h .source ≡ n → waited e board requester a c t h p room ≡ takenAs (heardIn e board a c t h p) e board requester c t h p room
+    pub waited-taken : not (awaits w (c .setup) (h .source)) ≡ false → waited w c t h p room ≡ takenIn w c t h p room
     unfolding waited
-    waited-board q = sym (choose-no _ _ _ _ (not-no _ (eq-eqb _ _ (q ∙ at))) refl)
+    waited-taken k = sym (choose-no _ _ _ _ k refl)
 
-  -- a good frame: 5 where it is not for us, 6 where nothing is waited for
+  -- nothing is waited for in the other phases
+  waited-idle : (w : Phase) → OneOf (0 ∷ 2 ∷ 3 ∷ 5 ∷ []) (tagOf phase.the-type w) → waited w c t h p room ≡ refused c t NotAwaited
+  waited-idle Resting k = waited-other Resting refl
+  waited-idle (Awaiting board e requester a) k = absurd (miss (0 ∷ 2 ∷ 3 ∷ 5 ∷ []) 1 tt k)
+  waited-idle (ForwardDue board requester) k = waited-other (ForwardDue board requester) refl
+  waited-idle (ReturnDue board) k = waited-other (ReturnDue board) refl
+  waited-idle (Seeking position part) k = absurd (miss (0 ∷ 2 ∷ 3 ∷ 5 ∷ []) 4 tt k)
+  waited-idle Unknown k = waited-other Unknown refl
+
+  -- a good frame: 5 where it is not for us
   pub listened-not-ours : (w : Phase) → (h .destination ≡ 255 → ⊥) → listened w c t h p room ≡ refused c t NotForUs
   unfolding listened
   listened-not-ours w ne = sym (choose-yes _ _ _ _ (not-yes _ (ne-eqb _ _ ne)) refl)
 
-  module _ (ours : h .destination ≡ 255) where
-    pub listened-idle : (w : Phase) → OneOf (0 ∷ 2 ∷ 3 ∷ 4 ∷ []) (tagOf phase.the-type w) → listened w c t h p room ≡ refused c t NotAwaited
-    unfolding listened choose
-    listened-idle Resting k = rw (eq-eqb _ _ ours) refl
-    listened-idle (Awaiting board e requester a) k = absurd (miss (0 ∷ 2 ∷ 3 ∷ 4 ∷ []) 1 tt k)
-    listened-idle (ForwardDue board requester) k = rw (eq-eqb _ _ ours) refl
-    listened-idle (ReturnDue board) k = rw (eq-eqb _ _ ours) refl
-    listened-idle Unknown k = rw (eq-eqb _ _ ours) refl
+  -- then 23 where it is a stray, and 6 where nothing is waited for; else what the wait gets
+  module _ (ours : h .destination ≡ 255) {v w : Phase} (given : v ≡ w) {s : Bool} (test : s ≡ isStray v (c .kept) (h .message)) where
+    stray : isStray w (c .kept) (h .message) ≡ s
+    stray = ap (λ (x : Phase). isStray x (c .kept) (h .message)) (sym given) ∙ sym test
 
-    pub listened-waited : {w v : Phase} (e : Exchange) (board requester : ℕ) (a : Bool) → v ≡ w → v ≡ Awaiting board e requester a → listened w c t h p room ≡ waited e board requester a c t h p room
-    unfolding listened waited
-    listened-waited e board requester a given known = ap (λ (x : Phase). listened x c t h p room) (sym given ∙ known) ∙ sym (choose-no _ _ _ _ (not-no _ (eq-eqb _ _ ours)) refl)
+    pub listened-stray : s ≡ true → listened w c t h p room ≡ refused c t NotDiscovering
+    unfolding listened
+    listened-stray k = sym (choose-no _ _ _ _ (not-no _ (eq-eqb _ _ ours)) (choose-yes _ _ _ _ (stray ∙ k) refl))
+
+    module _ (k : s ≡ false) where
+      pub listened-waited : {x : Phase} → v ≡ x → listened w c t h p room ≡ waited x c t h p room
+      unfolding listened
+      listened-waited known = sym (choose-no _ _ _ _ (not-no _ (eq-eqb _ _ ours)) (choose-no _ _ _ _ (stray ∙ k) refl)) ∙ ap (λ (x : Phase). waited x c t h p room) (sym given ∙ known)
+
+      pub listened-idle : OneOf (0 ∷ 2 ∷ 3 ∷ 5 ∷ []) (tagOf phase.the-type v) → listened w c t h p room ≡ refused c t NotAwaited
+      listened-idle i = listened-waited refl ∙ waited-idle v i
 
 module _ (c : Coordinator) (t : List Node) (b : List ℕ) (room : ℕ) {f : Bool} (fit : f ≡ fits c t) where
   -- 22 comes first
@@ -134,7 +160,7 @@ module _ (c : Coordinator) (t : List Node) (b : List ℕ) (room : ℕ) {f : Bool
 
     -- then what a good frame gets
     pub received-read : {g : Header} {n : ℕ} → r ≡ Frame g n → receiveOf c t b room ≡ listened (phaseOf (c .stand)) c t g (payloadOf b) room
-    unfolding receiveIn reading listened payloadOf
+    unfolding receiveIn reading listened waited payloadOf
     received-read {g} {n} w =
         sym (choose-no _ _ _ _ (ap not (sym fit) ∙ h) (sym (passed (readRules b) (refused c t) _ ok)))
         ∙ ap (λ (x : Header). listened (phaseOf (c .stand)) c t x (payload b) room) (sym (read-frame b w e .header))

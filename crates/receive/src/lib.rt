@@ -4,11 +4,13 @@ use board::Table;
 use coordinator::Coordinator;
 use coordinator::Exchange;
 use coordinator::Kept;
+use coordinator::Part;
 use coordinator::Phase;
 use frame::Header;
 use frame::Reading;
 use frame::Writing;
 use refusal::Refusal;
+use setup::Setup;
 use steps::Answer;
 use steps::Stepped;
 ghost use mathlib.Core.Path.{_≡_};
@@ -17,7 +19,9 @@ ghost use lib.ListN.{length, replicate};
 ghost use Rattle.ground.specs.Bytes.{laid};
 ghost use Rattle.coordinator.specs.Phase.{phaseOf};
 ghost use Rattle.steps.specs.After.{told, shown, shows, Leaves};
-ghost use Rattle.steps.specs.Receive.{keptOf, hear, hearAck, acked, acking, routed, heardIn, takenAs, receiveOf};
+ghost use Rattle.steps.specs.Receive.{keptOf, hearAck, acked, acking, routed, isSeeking, answersForward, isStray, heardIn, takenAs, receiveOf};
+ghost use Rattle.steps.specs.Hear.{hear};
+ghost use Rattle.steps.specs.Seek.{sourceIn};
 ghost use Rattle.receive.specs.Parts.{waited, listened};
 
 // The payload as it is kept: the bytes, and zeros past them.
@@ -62,11 +66,11 @@ fn hear_ack(table: Table, board: usize, session: u64) -> Table
     ensures { λ r. ⌜ r .nodes ≡ hearAck (table .nodes) board session ⌝ }
 {
     let node = board::record_at(table, board);
+    let heard = board::put_at(table, board, board::renewed(board::heard(node), session));
     if session == node.session {
-        return hear(table, board);
+        return heard;
     }
-    let node = board::renewed(board::heard(node), session);
-    board::owe_all(board::put_at(table, board, node))
+    board::owe_all(heard)
 }
 
 // Where a request goes on: kept for its board, or discarded where there is none.
@@ -92,7 +96,7 @@ fn routed(
 }
 
 // What an accepted ACK does, where the table has it heard: it ends its wait, except after a forward.
-fn acked(
+fn acknowledged(
     coordinator: Coordinator,
     table: Table,
     exchange: Exchange,
@@ -181,7 +185,7 @@ fn taken(
     match heard {
         Heard::Ack => {
             let heard_table = hear_ack(table, board, accept::ack_session(payload));
-            acked(coordinator, heard_table, exchange, board, requester)
+            acknowledged(coordinator, heard_table, exchange, board, requester)
         }
         Heard::Echo => acking(coordinator, table, board, Answer::Transmit, rested, out),
         Heard::Deliver => acking(coordinator, table, board, Answer::Deliver, rested, out),
@@ -200,7 +204,8 @@ fn taken(
     }
 }
 
-// A frame that comes in the wait for a board; one from another source leaves the wait as it is.
+// A frame that comes in the wait for a board; one from another source leaves the wait as it is. Most are ACKs, which are
+// seen to at once: their way is then the shortest.
 fn awaited(
     coordinator: Coordinator,
     table: Table,
@@ -213,12 +218,16 @@ fn awaited(
     out: &mut [u8],
 ) -> Stepped
     requires { ⌜ length (now payload) ≤ 240 ⌝ }
-    ensures { λ r. ⌜ Leaves (waited exchange board requester acked coordinator (table .nodes) header (now (payload .entry)) (length (now (out .entry)))) r (now (out .entry)) (now (out .exit)) ⌝ }
+    ensures { λ r. ⌜ Leaves (waited (Phase.Awaiting board exchange requester acked) coordinator (table .nodes) header (now (payload .entry)) (length (now (out .entry)))) r (now (out .entry)) (now (out .exit)) ⌝ }
 {
     if header.source != setup::address_at(coordinator.setup, board) {
         return steps::refusing(coordinator, table, Refusal::NotAwaited);
     }
     let heard = heard_in(coordinator, table, board, exchange, acked, header, payload);
+    if let Heard::Ack = heard {
+        let heard_table = hear_ack(table, board, accept::ack_session(payload));
+        return acknowledged(coordinator, heard_table, exchange, board, requester);
+    }
     taken(
         coordinator,
         table,
@@ -232,7 +241,101 @@ fn awaited(
     )
 }
 
-// A good frame: it has to be for us, in a wait.
+// The source that a part of the exchange awaits by which a board joins: 0 in search, else the address at stake.
+fn source_in(part: Part, setup: Setup, position: usize) -> u8
+    ensures { λ r. ⌜ r ≡ sourceIn part setup position ⌝ }
+{
+    match part {
+        Part::Search => 0,
+        _ => setup::address_at(setup, position),
+    }
+}
+
+// A frame that comes in the exchange by which a board joins; one from another source than its part awaits leaves it as
+// it is.
+fn sought(
+    coordinator: Coordinator,
+    table: Table,
+    part: Part,
+    position: usize,
+    header: Header,
+    payload: &[u8],
+    out: &mut [u8],
+) -> Stepped
+    ensures { λ r. ⌜ Leaves (waited (Phase.Seeking position part) coordinator (table .nodes) header (now (payload .entry)) (length (now (out .entry)))) r (now (out .entry)) (now (out .exit)) ⌝ }
+{
+    let source = source_in(part, coordinator.setup, position);
+    if !(steps::is_waiting(part) & (header.source == source)) {
+        return steps::refusing(coordinator, table, Refusal::NotAwaited);
+    }
+    seek::sought(part, position, coordinator, table, header, payload, out)
+}
+
+// Whether an exchange by which a board joins runs.
+fn is_seeking(phase: Phase) -> bool
+    ensures { λ r. ⌜ r ≡ isSeeking phase ⌝ }
+{
+    match phase {
+        Phase::Resting => false,
+        Phase::Awaiting {
+            board: _,
+            exchange: _,
+            requester: _,
+            acked: _,
+        } => false,
+        Phase::ForwardDue {
+            board: _,
+            requester: _,
+        } => false,
+        Phase::ReturnDue { board: _ } => false,
+        Phase::Seeking {
+            position: _,
+            part: _,
+        } => true,
+        Phase::Unknown => false,
+    }
+}
+
+// Whether the forward now awaited is of the request that a message of this type answers.
+fn answers_forward(phase: Phase, kept: Kept, message: u8) -> bool
+    ensures { λ r. ⌜ r ≡ answersForward phase kept message ⌝ }
+{
+    match phase {
+        Phase::Resting => false,
+        Phase::Awaiting {
+            board: _,
+            exchange,
+            requester: _,
+            acked: _,
+        } => match exchange {
+            Exchange::Offer => false,
+            Exchange::List => false,
+            Exchange::Forward => message as u16 == kept.message as u16 + 128,
+            Exchange::Return => false,
+        },
+        Phase::ForwardDue {
+            board: _,
+            requester: _,
+        } => false,
+        Phase::ReturnDue { board: _ } => false,
+        Phase::Seeking {
+            position: _,
+            part: _,
+        } => false,
+        Phase::Unknown => false,
+    }
+}
+
+// Whether a message is a response of the exchange by which a board joins, none runs, and no forward of the request that
+// it answers is awaited.
+fn is_stray(phase: Phase, kept: Kept, message: u8) -> bool
+    ensures { λ r. ⌜ r ≡ isStray phase kept message ⌝ }
+{
+    let reply = (0xF9 <= message) & (message <= 0xFB);
+    reply & !is_seeking(phase) & !answers_forward(phase, kept, message)
+}
+
+// A good frame: it has to be for us, no stray, and in a wait.
 fn listened(
     coordinator: Coordinator,
     table: Table,
@@ -246,7 +349,11 @@ fn listened(
     if header.destination != 255 {
         return steps::refusing(coordinator, table, Refusal::NotForUs);
     }
-    match coordinator::phase_of(coordinator.stand) {
+    let phase = coordinator::phase_of(coordinator.stand);
+    if is_stray(phase, coordinator.kept, header.message) {
+        return steps::refusing(coordinator, table, Refusal::NotDiscovering);
+    }
+    match phase {
         Phase::Awaiting {
             board,
             exchange,
@@ -263,6 +370,9 @@ fn listened(
             payload,
             out,
         ),
+        Phase::Seeking { position, part } => {
+            sought(coordinator, table, part, position, header, payload, out)
+        }
         _ => steps::refusing(coordinator, table, Refusal::NotAwaited),
     }
 }

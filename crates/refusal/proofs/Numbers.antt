@@ -6,12 +6,12 @@ use lib.ListN.{getD}
 use native.Mathlib.Omega.{arith}
 use Rattle.refusal.specs.Refusal.{numberOf, refuses, Told}
 use Rattle.refusal.specs.declared.Refusal.{Refusal}
-use Rattle.refusal.specs.declared.Refusal.the-variants.{Short, OverLong, LengthMismatch, BadChecksum, NotForUs, NotAwaited, UnexpectedType, BadEcho, BadMethod, PayloadTooLong, NoRoom, BadType, BadMac, Busy, Held, Full, AddressClash, AwaitingReply, NobodyListed, NotWaiting, BadPool, StateUnfit}
+use Rattle.refusal.specs.declared.Refusal.the-variants.{Short, OverLong, LengthMismatch, BadChecksum, NotForUs, NotAwaited, UnexpectedType, BadEcho, BadMethod, PayloadTooLong, NoRoom, BadType, BadMac, Busy, Held, Full, AddressClash, AwaitingReply, NobodyListed, NotWaiting, BadPool, StateUnfit, NotDiscovering}
 
 -- the refusals in the order of their numbers
 pub listed : List Refusal
 listed =
-    Short ∷ OverLong ∷ LengthMismatch ∷ BadChecksum ∷ NotForUs ∷ NotAwaited ∷ UnexpectedType ∷ BadEcho ∷ BadMethod ∷ PayloadTooLong ∷ NoRoom ∷ BadType ∷ BadMac ∷ Busy ∷ Held ∷ Full ∷ AddressClash ∷ AwaitingReply ∷ NobodyListed ∷ NotWaiting ∷ BadPool ∷ StateUnfit ∷ []
+    Short ∷ OverLong ∷ LengthMismatch ∷ BadChecksum ∷ NotForUs ∷ NotAwaited ∷ UnexpectedType ∷ BadEcho ∷ BadMethod ∷ PayloadTooLong ∷ NoRoom ∷ BadType ∷ BadMac ∷ Busy ∷ Held ∷ Full ∷ AddressClash ∷ AwaitingReply ∷ NobodyListed ∷ NotWaiting ∷ BadPool ∷ StateUnfit ∷ NotDiscovering ∷ []
 
 -- a refusal stands in that list where its number says
 pub placed : (r : Refusal) → getD listed (numberOf r - 1) Short ≡ r
@@ -38,6 +38,7 @@ placed NobodyListed = refl
 placed NotWaiting = refl
 placed BadPool = refl
 placed StateUnfit = refl
+placed NotDiscovering = refl
 
 pub same-number : (r q : Refusal) → numberOf r ≡ numberOf q → r ≡ q
 same-number r q h = sym (placed r) ∙ ap (λ (n : ℕ). getD listed (n - 1) Short) h ∙ placed q
@@ -66,6 +67,7 @@ not-zero NobodyListed h = omega arith
 not-zero NotWaiting h = omega arith
 not-zero BadPool h = omega arith
 not-zero StateUnfit h = omega arith
+not-zero NotDiscovering h = omega arith
 
 -- two answers that refuse and say the same refuse the same
 pub same-refused : (r q : Refusal) → refuses r ≡ refuses q → r ≡ q

@@ -4,9 +4,9 @@ use mathlib.Core.Bool.{Bool}
 use mathlib.Core.List.{List, [], _∷_}
 use Rattle.ground.specs.Choose.{choose}
 use Rattle.refusal.specs.declared.Refusal.{Refusal}
-use Rattle.refusal.specs.declared.Refusal.the-variants.{Short, OverLong, LengthMismatch, BadChecksum, NotForUs, NotAwaited, UnexpectedType, BadEcho, BadMethod, PayloadTooLong, NoRoom, BadType, BadMac, Busy, Held, Full, AddressClash, AwaitingReply, NobodyListed, NotWaiting, BadPool, StateUnfit}
+use Rattle.refusal.specs.declared.Refusal.the-variants.{Short, OverLong, LengthMismatch, BadChecksum, NotForUs, NotAwaited, UnexpectedType, BadEcho, BadMethod, PayloadTooLong, NoRoom, BadType, BadMac, Busy, Held, Full, AddressClash, AwaitingReply, NobodyListed, NotWaiting, BadPool, StateUnfit, NotDiscovering}
 
--- the rule book's number of each refusal (01, "Numbers")
+-- the rule book's number of each refusal (01, "Numbers"; 02, C-11)
 abbrev pub numberOf : Refusal → ℕ
 numberOf Short = 1
 numberOf OverLong = 2
@@ -30,6 +30,7 @@ numberOf NobodyListed = 19
 numberOf NotWaiting = 20
 numberOf BadPool = 21
 numberOf StateUnfit = 22
+numberOf NotDiscovering = 23
 
 -- what an answer says: its number (0 where nothing is refused) and the values that go with it
 pub record Told : Type 0 where

@@ -17,7 +17,7 @@ pub enum Refusal {
     NotAwaited,
     // 7: a type that this wait does not take, or a type 0 that is no ACK
     UnexpectedType,
-    // 8: after a list, 0x94 with another payload
+    // 8: after a list, 0x94 with another payload; after Set Address, 0xFA with another payload
     BadEcho,
     // 9: request with a method above 3
     BadMethod,
@@ -29,11 +29,11 @@ pub enum Refusal {
     BadType,
     // 13: MAC outside the range, in a join or in setup
     BadMac,
-    // 14: join while waiting, or while a forward, return or list is due
+    // 14: join or discovery while waiting, while a forward, return or list is due, or in an exchange by which a board joins
     Busy,
-    // 15: join while held
+    // 15: join or discovery while held; a second discovery since the last offer
     Held,
-    // 16: new MAC, no free position
+    // 16: new MAC or discovery, no free position
     Full,
     // 17: the chosen address is already listed
     AddressClash,
@@ -47,6 +47,8 @@ pub enum Refusal {
     BadPool,
     // 22: lent state or table not fit
     StateUnfit,
+    // 23: a response of types 0xF9 to 0xFB while no exchange by which a board joins runs
+    NotDiscovering,
 }
 
 // The rule book's number of a refusal.
@@ -76,5 +78,6 @@ pub fn number(refusal: Refusal) -> u8
         Refusal::NotWaiting => 20,
         Refusal::BadPool => 21,
         Refusal::StateUnfit => 22,
+        Refusal::NotDiscovering => 23,
     }
 }

@@ -8,6 +8,7 @@ use refusal::Refusal;
 use setup::Setup;
 use steps::Answer;
 use steps::Outcome;
+use steps::Seek;
 ghost use Rattle.io.specs.Counts.{Counts};
 
 fn write(text: &[u8]) {
@@ -55,11 +56,16 @@ fn write_hex(bytes: &[u8]) {
     }
 }
 
-// A line of words, the count of the bytes and the bytes.
-fn write_bytes(words: &[u8], bytes: &[u8]) {
+// Words, the count of the bytes and the bytes.
+fn write_counted(words: &[u8], bytes: &[u8]) {
     write(words);
     write_decimal(bytes.len() as u64);
     write_hex(bytes);
+}
+
+// A line of them.
+fn write_bytes(words: &[u8], bytes: &[u8]) {
+    write_counted(words, bytes);
     write(b"\n");
 }
 
@@ -90,6 +96,27 @@ fn waiting(board: usize, exchange: Exchange, bytes: &[u8]) {
     }
 }
 
+// wait P search|identify|assign COUNT HEX
+fn seeking(position: usize, seek: Seek, bytes: &[u8]) {
+    write(b"wait ");
+    write_decimal(position as u64);
+    match seek {
+        Seek::Search => write_bytes(b" search ", bytes),
+        Seek::Identify => write_bytes(b" identify ", bytes),
+        Seek::Assign => write_bytes(b" assign ", bytes),
+    }
+}
+
+// transmit COUNT HEX, transmit COUNT HEX joined P
+fn transmitting(joined: usize, bytes: &[u8]) {
+    if 0 < joined {
+        write_counted(b"transmit ", bytes);
+        write_number(b" joined ", joined as u64);
+    } else {
+        write_bytes(b"transmit ", bytes);
+    }
+}
+
 // rest, rest joined P, rest dropped P
 fn resting(joined: usize, dropped: usize) {
     if 0 < joined {
@@ -106,8 +133,9 @@ pub(crate) fn stepped(outcome: Outcome, bytes: &[u8]) {
     let answer = outcome.answer;
     match answer {
         Answer::Wait(board, exchange) => waiting(board, exchange, bytes),
+        Answer::Seek(position, seek) => seeking(position, seek, bytes),
         Answer::Deliver => write_bytes(b"deliver ", bytes),
-        Answer::Transmit => write_bytes(b"transmit ", bytes),
+        Answer::Transmit => transmitting(outcome.joined, bytes),
         Answer::Rest => resting(outcome.joined, outcome.dropped),
         Answer::Refuse(refusal) => refused(refusal),
     }

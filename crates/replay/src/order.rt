@@ -8,6 +8,7 @@ enum Word {
     Setup,
     Join,
     Turn,
+    Discover,
     Frame,
     Quiet,
     Table,
@@ -33,8 +34,11 @@ pub(crate) enum Order {
     Bad,
 }
 
-// Three of the six words; `word_of` has the others, and asks here last.
+// Four of the seven words; `word_of` has the others, and asks here last.
 fn later_word(word: &[u8]) -> Word {
+    if words::same(word, b"discover") {
+        return Word::Discover;
+    }
     if words::same(word, b"frame") {
         return Word::Frame;
     }
@@ -101,12 +105,12 @@ fn read_join(line: &[u8]) -> Order {
     }
 }
 
-// turn ROOM
-fn read_turn(line: &[u8]) -> Order {
-    let room = words::field_at(line, 5, 1024);
+// turn ROOM, discover ROOM: the event, and from here on the room for what it writes
+fn read_room(line: &[u8], at: usize, event: Event) -> Order {
+    let room = words::field_at(line, at, 1024);
     if room.ok & (line.len() < room.next) {
         Order::Step {
-            event: Event::Turn,
+            event: event,
             room: room.value as usize,
             count: 0,
         }
@@ -150,7 +154,8 @@ fn read_words(line: &[u8], bytes: &mut [u8]) -> Order {
     match word {
         Word::Setup => read_setup(line, bytes),
         Word::Join => read_join(line),
-        Word::Turn => read_turn(line),
+        Word::Turn => read_room(line, 5, Event::Turn),
+        Word::Discover => read_room(line, 9, Event::Discover),
         Word::Frame => read_frame(line, bytes),
         Word::Quiet => alone(
             line,

@@ -2,18 +2,24 @@
 use Prim.Native.Nat.{ℕ, _+_, _*_, _≤_}
 use mathlib.Core.Path.{_≡_}
 use mathlib.Core.Logic.{_⊎_}
-use mathlib.Core.Bool.{Bool, true, false}
-use mathlib.Core.List.{List, [], _∷_}
+use mathlib.Core.Bool.{true, false}
+use mathlib.Core.List.{List, []}
 use lib.ListN.{length}
 use Rattle.ground.specs.Below.{among}
 use Rattle.refusal.specs.Refusal.{refuses}
 use Rattle.refusal.specs.declared.Refusal.the-variants.{StateUnfit, AddressClash, NotWaiting}
 use Rattle.board.specs.Table.{at, listedAt}
-use Rattle.board.specs.Wanted.{someListed}
-use Rattle.setup.specs.Setup.{address}
-use Rattle.steps.specs.declared.Event.the-variants.{Turn, Quiet}
+use Rattle.board.specs.declared.Wanted.the-variants.{Owed}
+use Rattle.board.specs.Node.{isKind, isMac}
+use Rattle.board.specs.Wanted.{lowestOf, someListed}
+use Rattle.setup.specs.Setup.{isPool, address}
+use Rattle.coordinator.specs.declared.Phase.the-variants.{Resting}
+use Rattle.coordinator.specs.Phase.{phaseOf}
+use Rattle.steps.specs.declared.Event.the-variants.{Join, Turn, Quiet}
+use Rattle.steps.specs.After.{rests}
+use Rattle.steps.specs.Join.{chosen}
 use Rattle.series.specs.Series.{Input, World, Panel, left, Fresh, after, isAccepted, waitedFor, offers, accepted, stays}
-use Rattle.series.specs.Observed.{Seen, nothing, saw, seen}
+use Rattle.series.specs.Observed.{nothing, saw, seen}
 
 -- position p is on the list before step i of the series and off it after
 abbrev pub Leaves : Panel → World → List Input → Input → ℕ → Type 0
@@ -25,9 +31,10 @@ Third P w is i p = (seen P w nothing is .run p ≡ 2) × (saw i (P .step (after 
 
 -- "A board leaves the list exactly when three messages to it in a row went unanswered since it last joined or was last heard."
 -- At any step of any series: position p leaves the list exactly when that step brings its run of unanswered messages to three.
--- And the list that the answers tell of is the panel's.
+-- And the list that the answers tell of is the panel's, with the MACs that the joins told.
 pub record WhoStays (P : Panel) : Type 0 where
   pub told : (k : ℕ) (w : World) → Fresh P k w → (is : List Input) (p : ℕ) → seen P w nothing is .listed p ≡ listedAt (after P w is .nodes) p
+  pub macs : (k : ℕ) (w : World) → Fresh P k w → (is : List Input) (p : ℕ) → listedAt (after P w is .nodes) p ≡ true → seen P w nothing is .mac p ≡ at (after P w is .nodes) p .mac
   pub only : (k : ℕ) (w : World) → Fresh P k w → (is : List Input) (i : Input) (p : ℕ) → Leaves P w is i p → Third P w is i p
   pub then : (k : ℕ) (w : World) → Fresh P k w → (is : List Input) (i : Input) (p : ℕ) → Third P w is i p → Leaves P w is i p
 
@@ -46,16 +53,19 @@ abbrev pub RoundRobin : Panel → Type 0
 RoundRobin P =
     (k : ℕ) (w : World) → Fresh P k w → (is js : List Input) (p : ℕ) → stays P (after P w is) js p ≡ true → k ≤ length (offers P (after P w is) js) → among p (offers P (after P w is) js) ≡ true
 
--- the accepted steps within which it is offered the bus: k times (2k² + 2k + 8)
+-- the accepted steps within which it is offered the bus: k times (2k² + 2k + 8), with the six of an exchange by which a board joins added to the 8 (02, C-11)
 abbrev pub bound : ℕ → ℕ
-bound k = k * (2 * (k * k) + 2 * k + 8)
+bound k = k * (2 * (k * k) + 2 * k + 14)
 
--- "and is offered the bus within k times (2k² + 2k + 8) accepted steps, counted from any moment"
+-- "and is offered the bus within k times (2k² + 2k + 8) accepted steps, counted from any moment", 8 become 14 (02, C-11)
 abbrev pub Bounded : Panel → Type 0
 Bounded P =
     (k : ℕ) (w : World) → Fresh P k w → (is js : List Input) (p : ℕ) → stays P (after P w is) js p ≡ true → bound k ≤ accepted P (after P w is) js → among p (offers P (after P w is) js) ≡ true
 
--- a turn, and a quiet, with this room
+-- a join; a turn, and a quiet, with this room
+abbrev pub joinWith : ℕ → ℕ → ℕ → Input
+joinWith kind mac session = record { event = Join kind mac session; received = []; room = 0 }
+
 abbrev pub turnWith : ℕ → Input
 turnWith room = record { event = Turn; received = []; room = room }
 
@@ -74,3 +84,24 @@ EndsWait P w room = (isAccepted (P .step w (quietWith room) .says) ≡ true) × 
 abbrev pub NeverStuck : Panel → Type 0
 NeverStuck P =
     (k : ℕ) (w : World) → Fresh P k w → (is : List Input) (room : ℕ) → 252 ≤ room → someListed (after P w is .nodes) ≡ true → Transmits P (after P w is) room ⊎ EndsWait P (after P w is) room
+
+-- The statements above hold of a panel to which nothing ever happens; these two say that ours is none.
+
+-- every pool and MAC that the rules allow give a fresh start, for every k from 1 to 40 (01, "Setup takes a pool of k addresses, k from 1 to 40")
+abbrev pub Starts : Panel → Type 0
+Starts P =
+    (w : World) (addresses : List ℕ) (subnet internal mac session : ℕ) → length (w .nodes) ≡ 40 → isPool addresses ≡ true → isMac mac ≡ true → P .start w addresses subnet internal mac session .says ≡ rests
+
+-- a join that the rules allow: type and MAC in their ranges, at rest, nothing owed, not held, and a free position or a listed MAC (01, "Join" and numbers 12 to 16)
+pub record Allowed (w : World) (kind mac : ℕ) : Type 0 where
+  pub kindFits : isKind kind ≡ true
+  pub macFits : isMac mac ≡ true
+  pub rest : phaseOf (w .coordinator .stand) ≡ Resting
+  pub nothingOwed : lowestOf (w .nodes) Owed (w .coordinator .setup .k) ≡ 0
+  pub notHeld : w .coordinator .held ≡ 0
+  pub place : 1 ≤ chosen (w .nodes) (w .coordinator .setup .k) mac
+
+-- such a join is accepted, and names its position
+abbrev pub TakesJoins : Panel → Type 0
+TakesJoins P =
+    (k : ℕ) (w : World) → Fresh P k w → (is : List Input) (kind mac session : ℕ) → Allowed (after P w is) kind mac → (P .step (after P w is) (joinWith kind mac session) .says ≡ rests) × (P .step (after P w is) (joinWith kind mac session) .joined ≡ chosen (after P w is .nodes) (after P w is .coordinator .setup .k) mac)

@@ -1,4 +1,6 @@
 pub mod Series
 pub mod Observed
 pub mod Demand
+pub mod Exchange
+pub mod Wire
 pub mod Ours

@@ -1,10 +1,10 @@
 -- A panel and a series of steps from a fresh start (00, demand 3).
-use Prim.Native.Nat.{ℕ, zero, suc, _+_}
+use Prim.Native.Nat.{ℕ, _+_}
 use mathlib.Core.Path.{_≡_}
-use mathlib.Core.Bool.{Bool, true, false, _&&_}
-use mathlib.Core.List.{List, [], _∷_, _++_}
+use mathlib.Core.Bool.{Bool, _&&_}
+use mathlib.Core.List.{List, [], _∷_}
 use lib.ListN.{length, getD}
-use lib.Dec.{eqb}
+use lib.Dec.{eqb, leb}
 use Rattle.ground.specs.Choose.{choose}
 use Rattle.refusal.specs.Refusal.{Told}
 use Rattle.board.specs.declared.Node.{Node}
@@ -49,6 +49,14 @@ isAccepted says = eqb (says .number) 0
 -- the board for which an answer waits, 0 where it waits for none
 abbrev pub waitedFor : Told → ℕ
 waitedFor says = choose (isAccepted says && eqb (getD (says .values) 0 0) 1) (getD (says .values) 1 0) 0
+
+-- the kind of exchange in which an answer waits, 0 where it waits in none: offer 1, list 2, forward 3, return 4, search 5, identify 6, assign 7
+abbrev pub waitsIn : Told → ℕ
+waitsIn says = choose (isAccepted says && eqb (getD (says .values) 0 0) 1) (getD (says .values) 2 0) 0
+
+-- search, identify and assign are the waits of the exchange by which a board joins; theirs is a position at stake, and no message to a board (02, C-11)
+abbrev pub isSeek : ℕ → Bool
+isSeek exchange = leb 5 exchange && leb exchange 7
 
 -- the board to which an offer was made, 0 where none was: an answer that waits in exchange 1, the offer
 abbrev pub offeredTo : Told → ℕ

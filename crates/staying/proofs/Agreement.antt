@@ -19,30 +19,48 @@ use Rattle.board.specs.Node.{isListed}
 use Rattle.board.specs.Table.{at, put, listedAt}
 use Rattle.board.specs.Change.{oweAll}
 use Rattle.board.proofs.Changes.{at-put, at-put-other, owe-all-keeps, owe-all-listed}
+use Rattle.coordinator.specs.declared.Found.{Found}
+use Rattle.coordinator.specs.declared.Part.{Part}
+use Rattle.coordinator.specs.declared.Part.the-variants.{Search, IdentifyDue, Identify, Present, AssignDue, Assign}
 use Rattle.coordinator.specs.declared.Phase.{Phase}
-use Rattle.coordinator.specs.declared.Phase.the-variants.{Resting, Awaiting, ForwardDue, ReturnDue, Unknown}
+use Rattle.coordinator.specs.declared.Phase.the-variants.{Resting, Awaiting, ForwardDue, ReturnDue, Seeking, Unknown}
 use Rattle.coordinator.specs.declared.Coordinator.{Coordinator}
 use Rattle.coordinator.specs.Phase.{phaseOf}
 use Rattle.coordinator.specs.Fit.{fits}
 use Rattle.coordinator.proofs.Fitting.{Board, fits-forty}
 use Rattle.steps.specs.declared.Event.{Event}
 use Rattle.steps.specs.After.{After, refused}
-use Rattle.series.specs.Series.{isAccepted}
+use Rattle.series.specs.Series.{isAccepted, isSeek}
 use Rattle.series.specs.Observed.{Seen, changed, sawEvent}
 
--- in a wait, the board that is waited for and whether it was heard in it are those of the phase; outside of one nothing is asked
-abbrev pub Waits : ℕ → Bool → Phase → Type 0
-Waits awaited heard Resting = Unit {0}
-Waits awaited heard (Awaiting board exchange requester acked) = (awaited ≡ board) × (heard ≡ acked)
-Waits awaited heard (ForwardDue board requester) = Unit {0}
-Waits awaited heard (ReturnDue board) = Unit {0}
-Waits awaited heard Unknown = Unit {0}
+-- a wait of this kind, and no message to a board
+abbrev pub Seeks : ℕ → Seen → Type 0
+Seeks kind s = (s .wait ≡ kind) × (s .awaited ≡ 0)
 
--- the list is the table's, the run of each listed board is its misses, and the wait is the phase's
+-- in the exchange by which a board joins the wait is its part's, and from the discovery's response on who answered is what was discovered
+abbrev pub InPart : Seen → Found → Part → Type 0
+InPart s f Search = Seeks 5 s
+InPart s f IdentifyDue = s .found ≡ f
+InPart s f Identify = (Seeks 6 s) × (s .found ≡ f)
+InPart s f Present = (Seeks 6 s) × (s .found ≡ f)
+InPart s f AssignDue = s .found ≡ f
+InPart s f Assign = (Seeks 7 s) × (s .found ≡ f)
+
+-- in a wait for a board, that board and whether it was heard in it are those of the phase; outside of a wait nothing is asked
+abbrev pub Waits : Seen → Found → Phase → Type 0
+Waits s f Resting = Unit {0}
+Waits s f (Awaiting board exchange requester acked) = (s .awaited ≡ board) × ((s .heard ≡ acked) × (isSeek (s .wait) ≡ false))
+Waits s f (ForwardDue board requester) = Unit {0}
+Waits s f (ReturnDue board) = Unit {0}
+Waits s f (Seeking position part) = InPart s f part
+Waits s f Unknown = Unit {0}
+
+-- the list is the table's, the run of each listed board is its misses, its MAC the record's, and the wait is the phase's
 pub record Agrees (s : Seen) (c : Coordinator) (t : List Node) : Type 0 where
   pub listed : (p : ℕ) → s .listed p ≡ listedAt t p
   pub run : (p : ℕ) → listedAt t p ≡ true → s .run p ≡ at t p .misses
-  pub wait : Waits (s .awaited) (s .heard) (phaseOf (c .stand))
+  pub mac : (p : ℕ) → listedAt t p ≡ true → s .mac p ≡ at t p .mac
+  pub wait : Waits s (c .found) (phaseOf (c .stand))
 
 -- position p is listed in one table and not in the other
 abbrev pub Gone : List Node → List Node → ℕ → Type 0
@@ -88,38 +106,60 @@ changed-none f b v e q = changed-case f b v q (λ x. f q ≡ x) (λ h. ap f h �
 pub inside : (c : Coordinator) (t : List Node) → fits c t ≡ true → {b : ℕ} → Board c t b → b ≤ length t
 inside c t h board = omega (arith, board .upTo, board .few, fits-forty c t h)
 
--- two tables that differ, in who is listed and in the misses, at position b only
-pub record Changes (t u : List Node) (b : ℕ) (l : Bool) (m : ℕ) : Type 0 where
+-- two tables that differ, in who is listed, in the misses and in the MACs, at position b only
+pub record Changes (t u : List Node) (b : ℕ) (l : Bool) (m n : ℕ) : Type 0 where
   pub listed : (p : ℕ) → listedAt u p ≡ changed (listedAt t) b l p
   pub misses : (p : ℕ) → at u p .misses ≡ changed (λ q. at t q .misses) b m p
+  pub macs : (p : ℕ) → at u p .mac ≡ changed (λ q. at t q .mac) b n p
 
-pub put-changes : (t : List Node) (b : ℕ) (n : Node) {l : Bool} {m : ℕ} → 1 ≤ b → b ≤ length t → isListed n ≡ l → n .misses ≡ m → Changes t (put t b n) b l m
-put-changes t b n from upTo el em = record { listed = each-is isListed el; misses = each-is (λ m. m .misses) em }
+pub put-changes : (t : List Node) (b : ℕ) (n : Node) {l : Bool} {m : ℕ} → 1 ≤ b → b ≤ length t → isListed n ≡ l → n .misses ≡ m → Changes t (put t b n) b l m (n .mac)
+put-changes t b n from upTo el em = record { listed = each-is isListed el; misses = each-is (λ m. m .misses) em; macs = each-is (λ m. m .mac) refl }
   where
     each-is : {A : Type 0} (f : Node → A) {v : A} → f n ≡ v → (p : ℕ) → f (at (put t b n) p) ≡ changed (λ q. f (at t q)) b v p
     each-is f {v} e p = changed-case (λ q. f (at t q)) b v p (λ x. f (at (put t b n) p) ≡ x) (λ here. ap f (ap (at (put t b n)) here ∙ at-put t b n from upTo) ∙ e) (λ ne. ap f (at-put-other t b p n ne))
 
 -- owing the list to all is no such change
-pub owe-changes : {t u : List Node} {b : ℕ} {l : Bool} {m : ℕ} → Changes t u b l m → Changes t (oweAll u) b l m
-owe-changes {u = u} g = record { listed = λ p. owe-all-listed u p ∙ g .listed p; misses = λ p. owe-all-keeps u p .misses ∙ g .misses p }
+pub owe-changes : {t u : List Node} {b : ℕ} {l : Bool} {m n : ℕ} → Changes t u b l m n → Changes t (oweAll u) b l m n
+owe-changes {u = u} g = record { listed = λ p. owe-all-listed u p ∙ g .listed p; misses = λ p. owe-all-keeps u p .misses ∙ g .misses p; macs = λ p. owe-all-keeps u p .mac ∙ g .macs p }
 
--- a change that is seen as it is made: who is listed, and the run where the board stays listed
-pub agrees-changed : {s s′ : Seen} {c c′ : Coordinator} {t u : List Node} {b : ℕ} {l : Bool} {m : ℕ} (v : ℕ) → Agrees s c t → Changes t u b l m → (l ≡ true → v ≡ m) → ((p : ℕ) → s′ .listed p ≡ changed (s .listed) b l p) → ((p : ℕ) → s′ .run p ≡ changed (s .run) b v p) → Waits (s′ .awaited) (s′ .heard) (phaseOf (c′ .stand)) → Agrees s′ c′ u
-agrees-changed {s} {s′} {t = t} {u} {b} {l} {m} v g ch same listed run wait = record { listed = λ p. listed p ∙ ap (choose (eqb p b) l) (g .listed p) ∙ sym (ch .listed p); run = λ p h. run p ∙ runs p h (ℕ-discrete p b) ∙ sym (ch .misses p); wait = wait }
+-- a change that is seen as it is made: who is listed, and the run and the MAC where the board stays listed
+pub record Sees (s s′ : Seen) (b : ℕ) (l : Bool) (v n : ℕ) : Type 0 where
+  pub listed : (p : ℕ) → s′ .listed p ≡ changed (s .listed) b l p
+  pub run : (p : ℕ) → s′ .run p ≡ changed (s .run) b v p
+  pub mac : (p : ℕ) → s′ .mac p ≡ changed (s .mac) b n p
+
+-- what is seen of a listed board is the record's after the change as it was before
+seen-changed : (t u : List Node) (b : ℕ) {l : Bool} (f : Node → ℕ) (old new : ℕ → ℕ) {v m : ℕ} → ((p : ℕ) → listedAt u p ≡ changed (listedAt t) b l p) → ((p : ℕ) → f (at u p) ≡ changed (λ q. f (at t q)) b m p) → ((p : ℕ) → new p ≡ changed old b v p) → ((p : ℕ) → listedAt t p ≡ true → old p ≡ f (at t p)) → (l ≡ true → v ≡ m) → (p : ℕ) → listedAt u p ≡ true → new p ≡ f (at u p)
+seen-changed t u b {l} f old new {v} {m} listed held seen-as was same p h = seen-as p ∙ go (ℕ-discrete p b) ∙ sym (held p)
   where
-    runs : (p : ℕ) → listedAt u p ≡ true → Dec (p ≡ b) → changed (s .run) b v p ≡ changed (λ q. at t q .misses) b m p
-    runs p h (yes e) = changed-here (s .run) b v p e ∙ same (sym (changed-here (listedAt t) b l p e) ∙ sym (ch .listed p) ∙ h) ∙ sym (changed-here (λ q. at t q .misses) b m p e)
-    runs p h (no ne) = changed-other (s .run) b v p ne ∙ g .run p (sym (changed-other (listedAt t) b l p ne) ∙ sym (ch .listed p) ∙ h) ∙ sym (changed-other (λ q. at t q .misses) b m p ne)
+    go : Dec (p ≡ b) → changed old b v p ≡ changed (λ q. f (at t q)) b m p
+    go (yes e) = changed-here old b v p e ∙ same (sym (changed-here (listedAt t) b l p e) ∙ sym (listed p) ∙ h) ∙ sym (changed-here (λ q. f (at t q)) b m p e)
+    go (no ne) = changed-other old b v p ne ∙ was p (sym (changed-other (listedAt t) b l p ne) ∙ sym (listed p) ∙ h) ∙ sym (changed-other (λ q. f (at t q)) b m p ne)
+
+pub agrees-changed : {s s′ : Seen} {c c′ : Coordinator} {t u : List Node} {b : ℕ} {l : Bool} {m n v x : ℕ} → Agrees s c t → Changes t u b l m n → (l ≡ true → v ≡ m) → (l ≡ true → x ≡ n) → Sees s s′ b l v x → Waits s′ (c′ .found) (phaseOf (c′ .stand)) → Agrees s′ c′ u
+agrees-changed {s} {s′} {t = t} {u} {b} {l} g ch same alike sees wait =
+    record {
+      listed = λ p. sees .listed p ∙ ap (choose (eqb p b) l) (g .listed p) ∙ sym (ch .listed p);
+      run = seen-changed t u b (λ n. n .misses) (s .run) (s′ .run) (ch .listed) (ch .misses) (sees .run) (g .run) same;
+      mac = seen-changed t u b (λ n. n .mac) (s .mac) (s′ .mac) (ch .listed) (ch .macs) (sees .mac) (g .mac) alike;
+      wait = wait;
+    }
 
 -- so nobody leaves the list where the board at b stays or comes on it, and its run is not the one that comes from two to three
-pub listed-tells : {s s′ : Seen} {c : Coordinator} {t : List Node} {a : After} {b m : ℕ} (v : ℕ) → Agrees s c t → Changes t (a .nodes) b true m → v ≡ m → (s .run b ≡ 2 → v ≡ 3 → ⊥) → ((p : ℕ) → s′ .listed p ≡ changed (s .listed) b true p) → ((p : ℕ) → s′ .run p ≡ changed (s .run) b v p) → Waits (s′ .awaited) (s′ .heard) (phaseOf (a .coordinator .stand)) → Tells s s′ t a
-listed-tells {s} {s′} {t = t} {a} {b} v g ch same below listed run wait = nobody-leaves (agrees-changed v g ch (λ _. same) listed run wait) stay never
+pub listed-tells : {s s′ : Seen} {c : Coordinator} {t : List Node} {a : After} {b m n v x : ℕ} → Agrees s c t → Changes t (a .nodes) b true m n → v ≡ m → x ≡ n → (s .run b ≡ 2 → v ≡ 3 → ⊥) → Sees s s′ b true v x → Waits s′ (a .coordinator .found) (phaseOf (a .coordinator .stand)) → Tells s s′ t a
+listed-tells {s} {s′} {t = t} {a} {b} {v = v} g ch same alike below sees wait = nobody-leaves (agrees-changed g ch (λ _. same) (λ _. alike) sees wait) stay never
   where
     stay : (p : ℕ) → listedAt t p ≡ true → listedAt (a .nodes) p ≡ true
     stay p l = ch .listed p ∙ changed-case (listedAt t) b true p (λ x. x ≡ true) (λ e. refl) (λ ne. l)
 
     never : (p : ℕ) → Thrice s s′ p → ⊥
-    never p (two, three) = changed-case (s .run) b v p (λ x. x ≡ 3 → ⊥) (λ e m. below (sym (ap (s .run) e) ∙ two) m) (λ ne m. omega arith) (sym (run p) ∙ three)
+    never p (two, three) = changed-case (s .run) b v p (λ x. x ≡ 3 → ⊥) (λ e m. below (sym (ap (s .run) e) ∙ two) m) (λ ne m. omega arith) (sym (sees .run p) ∙ three)
+
+-- a step that leaves who is listed, the misses and the MACs as they were, and of which the same is seen
+pub still-tells : {s s′ : Seen} {c : Coordinator} {t : List Node} {a : After} → Agrees s c t → ((p : ℕ) → listedAt (a .nodes) p ≡ listedAt t p) → ((p : ℕ) → at (a .nodes) p .misses ≡ at t p .misses) → ((p : ℕ) → at (a .nodes) p .mac ≡ at t p .mac) → ((p : ℕ) → s′ .listed p ≡ s .listed p) → ((p : ℕ) → s′ .run p ≡ s .run p) → ((p : ℕ) → s′ .mac p ≡ s .mac p) → Waits s′ (a .coordinator .found) (phaseOf (a .coordinator .stand)) → Tells s s′ t a
+still-tells g listed misses macs l r n wait =
+    nobody-leaves (record { listed = λ p. l p ∙ g .listed p ∙ sym (listed p); run = λ p h. r p ∙ g .run p (sym (listed p) ∙ h) ∙ sym (misses p); mac = λ p h. n p ∙ g .mac p (sym (listed p) ∙ h) ∙ sym (macs p); wait = wait })
+    (λ p h. listed p ∙ h) (λ p e. omega (arith, r p))
 
 -- what is asked of a step that leaves a after this event with these bytes received: it is seen where it is accepted
 abbrev pub Told : Seen → List Node → Event → List ℕ → After → Type 0

@@ -1,6 +1,9 @@
 pub mod Agreement
+pub mod Addresses
 pub mod AfterJoin
 pub mod AfterTurn
+pub mod AfterSeek
 pub mod AfterFrame
 pub mod AfterQuiet
+pub mod AfterDiscover
 pub mod WhoStays

@@ -8,7 +8,7 @@ use Rattle.board.specs.Node.{isListed}
 use Rattle.coordinator.specs.declared.Coordinator.{Coordinator}
 use Rattle.coordinator.specs.Fit.{fits}
 use Rattle.steps.specs.declared.Event.{Event}
-use Rattle.steps.specs.declared.Event.the-variants.{Join, Turn, Frame, Quiet}
+use Rattle.steps.specs.declared.Event.the-variants.{Join, Turn, Frame, Quiet, Discover}
 use Rattle.steps.specs.Step.{stepOf}
 use Rattle.series.specs.Series.{Input, World, Fresh, left, after}
 use Rattle.series.specs.Observed.{Seen, nothing, saw, seen}
@@ -21,6 +21,7 @@ use Rattle.staying.proofs.AfterJoin.{join-tells}
 use Rattle.staying.proofs.AfterTurn.{turn-tells}
 use Rattle.staying.proofs.AfterFrame.{frame-tells}
 use Rattle.staying.proofs.AfterQuiet.{quiet-tells}
+use Rattle.staying.proofs.AfterDiscover.{discover-tells}
 
 -- any event
 event-tells : (s : Seen) (c : Coordinator) (t : List Node) → fits c t ≡ true → Agrees s c t → (event : Event) (b : List ℕ) (room : ℕ) → Told s t event b (stepOf c t event b room)
@@ -28,6 +29,7 @@ event-tells s c t h g (Join kind mac session) b room = join-tells s c t h g kind
 event-tells s c t h g Turn b room = turn-tells s c t h g room
 event-tells s c t h g Frame b room = frame-tells s c t h g b room
 event-tells s c t h g Quiet b room = quiet-tells s c t h g
+event-tells s c t h g Discover b room = discover-tells s c t g room
 
 -- a world that is fit, and agrees with what is seen
 pub record Holds (s : Seen) (w : World) : Type 0 where
@@ -40,7 +42,7 @@ step-tells {s} {w} g i = event-tells s (w .coordinator) (w .nodes) (g .fit) (g .
 
 -- it holds at a fresh start, where nobody is listed, and after any series of steps
 started-holds : {w : World} (k : ℕ) → Started k w → Holds nothing w
-started-holds {w} k f = record { fit = f .fit; agrees = record { listed = λ p. ap isListed (sym (f .free p)); run = λ p l. ap (λ (n : Node). n .misses) (sym (f .free p)); wait = rw (f .phase) tt } }
+started-holds {w} k f = record { fit = f .fit; agrees = record { listed = λ p. ap isListed (sym (f .free p)); run = λ p l. ap (λ (n : Node). n .misses) (sym (f .free p)); mac = λ p l. ap (λ (n : Node). n .mac) (sym (f .free p)); wait = rw (f .phase) tt } }
 
 step-holds : {s : Seen} {w : World} → Holds s w → (i : Input) → Holds (saw i (ours .step w i) s) (left (ours .step w i))
 step-holds {s} {w} g i = record { fit = step-fit w i (g .fit); agrees = step-tells g i .agrees }
@@ -57,6 +59,7 @@ pub who-stays : WhoStays ours
 who-stays =
     record {
       told = λ k w f is p. holds k w f is .agrees .listed p;
+      macs = λ k w f is p. holds k w f is .agrees .mac p;
       only = λ k w f is i p. step-tells (holds k w f is) i .only p;
       then = λ k w f is i p. step-tells (holds k w f is) i .then p;
     }

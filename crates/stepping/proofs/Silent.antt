@@ -10,11 +10,14 @@ use Rattle.refusal.proofs.Rules.{each, by-rules}
 use Rattle.board.specs.declared.Node.{Node}
 use Rattle.board.specs.Table.{at}
 use Rattle.coordinator.specs.declared.Coordinator.{Coordinator}
+use Rattle.coordinator.specs.declared.Part.{Part}
+use Rattle.coordinator.specs.declared.Part.the-variants.{Search, IdentifyDue, Identify, Present, AssignDue, Assign}
 use Rattle.coordinator.specs.declared.Phase.{Phase}
-use Rattle.coordinator.specs.declared.Phase.the-variants.{Resting, Awaiting, ForwardDue, ReturnDue, Unknown}
+use Rattle.coordinator.specs.declared.Phase.the-variants.{Resting, Awaiting, ForwardDue, ReturnDue, Seeking, Unknown}
 use Rattle.coordinator.specs.Phase.{phaseOf}
 use Rattle.steps.specs.After.{After, refused}
 use Rattle.steps.specs.Join.{joinRules, joinOf}
+use Rattle.steps.specs.Seek.{quietInSeek}
 use Rattle.steps.specs.Quiet.{quietRules, quietValue, quietIn, quietOf}
 
 Silent : After → Type 0
@@ -33,12 +36,22 @@ unfolding choose
 silent-choice true x y p q = p
 silent-choice false x y p q = q
 
+silent-seek : (part : Part) (position : ℕ) (c : Coordinator) (t : List Node) → Silent (quietInSeek part position c t)
+unfolding Silent
+silent-seek Search position c t = refl
+silent-seek IdentifyDue position c t = refl
+silent-seek Identify position c t = refl
+silent-seek Present position c t = refl
+silent-seek AssignDue position c t = refl
+silent-seek Assign position c t = refl
+
 silent-value : (phase : Phase) (c : Coordinator) (t : List Node) → Silent (quietValue phase c t)
 unfolding Silent
 silent-value Resting c t = refl
 silent-value (Awaiting board exchange requester acked) c t = silent-choice acked _ _ refl (silent-choice (ltb (at t board .misses) 2) _ _ refl refl)
 silent-value (ForwardDue board requester) c t = refl
 silent-value (ReturnDue board) c t = refl
+silent-value (Seeking position part) c t = silent-seek part position c t
 silent-value Unknown c t = refl
 
 pub quiet-silent : (c : Coordinator) (t : List Node) → quietOf c t .bytes ≡ []

@@ -9,7 +9,8 @@ ghost use Rattle.ground.specs.Bytes.{laid};
 ghost use Rattle.steps.specs.After.{shown, shows};
 ghost use Rattle.steps.specs.Step.{stepOf};
 
-// The panel's step. Received bytes are looked at by the event Frame alone, and the output is written by Turn and Frame alone.
+// The panel's step. Received bytes are looked at by the event Frame alone, and the output is written by Turn, Frame and
+// Discover alone.
 pub fn step(
     coordinator: Coordinator,
     table: Table,
@@ -24,5 +25,6 @@ pub fn step(
         Event::Turn => turn::turn(coordinator, table, out),
         Event::Frame => receive::receive(coordinator, table, received, out),
         Event::Quiet => quiet::quiet(coordinator, table),
+        Event::Discover => seek::discover(coordinator, table, out),
     }
 }

@@ -1,3 +1,4 @@
 pub mod Shows
+pub mod Writes
 pub mod Refusals
 pub mod Unique

@@ -1,10 +1,10 @@
 -- Demand 1 over every step: one that refuses leaves coordinator, records and output as they were, and names nobody.
 use Prim.Native.Nat.{ℕ}
-use mathlib.Core.Path.{_≡_, refl, sym, ap, _∙_}
+use mathlib.Core.Path.{_≡_, refl, ap}
 use mathlib.Core.Logic.{_⊎_, inl, inr}
 use mathlib.Core.Bool.{Bool, true, false}
 use mathlib.Core.List.{List, [], _∷_}
-use lib.Dec.{eqb, ltb}
+use lib.Dec.{ltb}
 use Rattle.ground.specs.Choose.{choose}
 use Rattle.ground.specs.Bytes.{laid}
 use Rattle.refusal.specs.Refusal.{Told, ruled}
@@ -14,20 +14,27 @@ use Rattle.frame.specs.declared.Header.{Header}
 use Rattle.frame.specs.Frame.{headerOf}
 use Rattle.board.specs.declared.Node.{Node}
 use Rattle.board.specs.Table.{at}
+use Rattle.board.specs.Round.{nextListed}
 use Rattle.accept.specs.declared.Heard.{Heard}
 use Rattle.accept.specs.declared.Heard.the-variants.{Ack, Echo, Deliver, Route, Answer, Refused}
+use Rattle.accept.specs.declared.Reply.{Reply}
+use Rattle.accept.specs.declared.Reply.the-variants.{Discovered, Present as AckCame, Identified, Assigned, Refused as NotTaken}
 use Rattle.coordinator.specs.declared.Coordinator.{Coordinator}
 use Rattle.coordinator.specs.declared.Exchange.{Exchange}
 use Rattle.coordinator.specs.declared.Exchange.the-variants.{Offer, List as Listing, Forward, Return}
+use Rattle.coordinator.specs.declared.Part.{Part}
+use Rattle.coordinator.specs.declared.Part.the-variants.{Search, IdentifyDue, Identify, Present, AssignDue, Assign}
 use Rattle.coordinator.specs.declared.Phase.{Phase}
-use Rattle.coordinator.specs.declared.Phase.the-variants.{Resting, Awaiting, ForwardDue, ReturnDue, Unknown}
+use Rattle.coordinator.specs.declared.Phase.the-variants.{Resting, Awaiting, ForwardDue, ReturnDue, Seeking, Unknown}
 use Rattle.coordinator.specs.Phase.{phaseOf}
 use Rattle.steps.specs.declared.Event.{Event}
-use Rattle.steps.specs.declared.Event.the-variants.{Join, Turn, Frame, Quiet}
+use Rattle.steps.specs.declared.Event.the-variants.{Join, Turn, Frame, Quiet, Discover}
 use Rattle.steps.specs.After.{After, refused, delivers, transmits}
 use Rattle.steps.specs.Start.{startRules, startOf}
 use Rattle.steps.specs.Join.{joinRules, joinOf}
-use Rattle.steps.specs.Turn.{turnRules, turnIn}
+use Rattle.steps.specs.Seek.{replyIn, repliedAs, quietInSeek}
+use Rattle.steps.specs.Discover.{discoverRules, discoverOf}
+use Rattle.steps.specs.Turn.{owedTo, dueList, dueOffer, dueOwn, dueSeek, dueIn, turnRules, turnIn}
 use Rattle.steps.specs.Receive.{payload, receiveRules, receiveIn, takenIn, takenAs, acked, acking, heardIn}
 use Rattle.steps.specs.Quiet.{quietRules, quietIn, quietValue}
 use Rattle.steps.specs.Step.{stepOf}
@@ -67,11 +74,27 @@ module _ (c : Coordinator) (t : List Node) where
   plain-taken Answer exchange board requester h p room = plain-acking board room transmits _ refl
   plain-taken (Refused r) exchange board requester h p room = refusing r
 
+  plain-replied : (reply : Reply) (position : ℕ) (p : List ℕ) (room : ℕ) → Plain c t (repliedAs reply position c t p room)
+  plain-replied Discovered position p room = plain-choice _ _ _ (inl refl) (inl refl)
+  plain-replied AckCame position p room = inl refl
+  plain-replied Identified position p room = plain-choice (ltb room 29) _ _ (refusing NoRoom) (inl refl)
+  plain-replied Assigned position p room = plain-choice (ltb room 29) _ _ (refusing NoRoom) (inl refl)
+  plain-replied (NotTaken r) position p room = refusing r
+
+  plain-seek : (part : Part) (position : ℕ) → Plain c t (quietInSeek part position c t)
+  plain-seek Search position = inl refl
+  plain-seek IdentifyDue position = refusing NotWaiting
+  plain-seek Identify position = inl refl
+  plain-seek Present position = inl refl
+  plain-seek AssignDue position = refusing NotWaiting
+  plain-seek Assign position = inl refl
+
   plain-in : (phase : Phase) (h : Header) (p : List ℕ) (room : ℕ) → Plain c t (takenIn phase c t h p room)
   plain-in Resting h p room = refusing NotAwaited
   plain-in (Awaiting board exchange requester acked) h p room = plain-taken (heardIn exchange board acked c t h p) exchange board requester h p room
   plain-in (ForwardDue board requester) h p room = refusing NotAwaited
   plain-in (ReturnDue board) h p room = refusing NotAwaited
+  plain-in (Seeking position part) h p room = plain-replied (replyIn part position c h p) position p room
   plain-in Unknown h p room = refusing NotAwaited
 
   plain-quiet : (phase : Phase) → Plain c t (quietValue phase c t)
@@ -79,14 +102,41 @@ module _ (c : Coordinator) (t : List Node) where
   plain-quiet (Awaiting board exchange requester acked) = plain-choice acked _ _ (inl refl) (plain-choice (ltb (at t board .misses) 2) _ _ (inl refl) (inl refl))
   plain-quiet (ForwardDue board requester) = refusing NotWaiting
   plain-quiet (ReturnDue board) = refusing NotWaiting
+  plain-quiet (Seeking position part) = plain-seek part position
   plain-quiet Unknown = refusing NotWaiting
 
+  -- what is due says a wait
+  plain-own : dueOwn c t .says .number ≡ 0
+  unfolding choose
+  plain-own = go (ltb 0 (owedTo c t))
+    where
+      go : (b : Bool) → choose b (dueList c t (owedTo c t)) (dueOffer c t (nextListed t (c .setup .k) (c .last))) .says .number ≡ 0
+      go true = refl
+      go false = refl
+
+  plain-part : (part : Part) (position : ℕ) → dueSeek part c t position .says .number ≡ 0
+  plain-part Search position = plain-own
+  plain-part IdentifyDue position = refl
+  plain-part Identify position = plain-own
+  plain-part Present position = plain-own
+  plain-part AssignDue position = refl
+  plain-part Assign position = plain-own
+
+  pub plain-due : (phase : Phase) → dueIn phase c t .says .number ≡ 0
+  plain-due Resting = plain-own
+  plain-due (Awaiting board exchange requester acked) = plain-own
+  plain-due (ForwardDue board requester) = refl
+  plain-due (ReturnDue board) = refl
+  plain-due (Seeking position part) = plain-part part position
+  plain-due Unknown = plain-own
+
   pub plain-step : (event : Event) (b : List ℕ) (room : ℕ) → Plain c t (stepOf c t event b room)
-  unfolding joinOf turnIn receiveIn quietIn
+  unfolding joinOf turnIn receiveIn quietIn discoverOf
   plain-step (Join kind mac session) b room = plain-ruled (joinRules c t kind mac) _ (inl refl)
-  plain-step Turn b room = plain-ruled (turnRules (phaseOf (c .stand)) c t room) _ (inl refl)
+  plain-step Turn b room = plain-ruled (turnRules (phaseOf (c .stand)) c t room) _ (inl (plain-due (phaseOf (c .stand))))
   plain-step Frame b room = plain-ruled (receiveRules (phaseOf (c .stand)) c t b) _ (plain-in (phaseOf (c .stand)) (headerOf b) (payload b) room)
   plain-step Quiet b room = plain-ruled (quietRules (phaseOf (c .stand)) c t) _ (plain-quiet (phaseOf (c .stand)))
+  plain-step Discover b room = plain-ruled (discoverRules c t room) _ (inl refl)
 
   pub plain-start : (addresses : List ℕ) (subnet internal mac session : ℕ) → Plain c t (startOf c t addresses subnet internal mac session)
   unfolding startOf

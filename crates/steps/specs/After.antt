@@ -10,8 +10,10 @@ use Rattle.board.specs.declared.Node.{Node}
 use Rattle.coordinator.specs.declared.Coordinator.{Coordinator}
 use Rattle.coordinator.specs.declared.Exchange.{Exchange}
 use Rattle.coordinator.specs.declared.Exchange.the-variants.{Offer, List as Listing, Forward, Return}
+use Rattle.steps.specs.declared.Seek.{Seek as Seeks}
+use Rattle.steps.specs.declared.Seek.the-variants.{Search, Identify, Assign}
 use Rattle.steps.specs.declared.Answer.{Answer}
-use Rattle.steps.specs.declared.Answer.the-variants.{Wait, Deliver, Transmit, Rest, Refuse}
+use Rattle.steps.specs.declared.Answer.the-variants.{Wait, Seek, Deliver, Transmit, Rest, Refuse}
 use Rattle.steps.specs.declared.Stepped.{Stepped}
 
 -- the kinds of exchange in the rule book's order: offer, list, forward, return
@@ -21,9 +23,19 @@ exchangeNumber Listing = 2
 exchangeNumber Forward = 3
 exchangeNumber Return = 4
 
+-- the waits of the exchange by which a board joins come after them: search, identify, assign (02, C-11)
+abbrev pub seekNumber : Seeks → ℕ
+seekNumber Search = 5
+seekNumber Identify = 6
+seekNumber Assign = 7
+
 -- the answers in the rule book's order: wait for a board in an exchange, deliver, transmit, rest (01, "Steps")
 abbrev pub waits : ℕ → Exchange → Told
 waits board exchange = gives (1 ∷ board ∷ exchangeNumber exchange ∷ [])
+
+-- a wait too, for whoever is or will be at the address of a position, listed or not (02, C-11)
+abbrev pub seeks : ℕ → Seeks → Told
+seeks position seek = gives (1 ∷ position ∷ seekNumber seek ∷ [])
 
 abbrev pub delivers : Told
 delivers = gives (2 ∷ [])
@@ -37,6 +49,7 @@ rests = gives (4 ∷ [])
 -- what an answer says; a refusal says its number alone
 abbrev pub told : Answer → Told
 told (Wait board exchange) = waits board exchange
+told (Seek position seek) = seeks position seek
 told Deliver = delivers
 told Transmit = transmits
 told Rest = rests

@@ -18,18 +18,19 @@ use Rattle.setup.specs.declared.Setup.{Setup}
 use Rattle.setup.specs.Setup.{address}
 use Rattle.coordinator.specs.declared.Coordinator.{Coordinator}
 use Rattle.coordinator.specs.declared.Phase.{Phase}
-use Rattle.coordinator.specs.declared.Phase.the-variants.{Resting, Awaiting, ForwardDue, ReturnDue, Unknown}
+use Rattle.coordinator.specs.declared.Phase.the-variants.{Resting, Awaiting, ForwardDue, ReturnDue, Seeking, Unknown}
 use Rattle.coordinator.specs.Phase.{phaseOf}
 use Rattle.coordinator.specs.Fit.{fits}
 use Rattle.coordinator.specs.Change.{holding}
 use Rattle.steps.specs.After.{After, refused, rests}
 
--- no wait, and no forward or return due
+-- no wait, no forward or return due, no exchange by which a board joins (02, C-11: "While an exchange runs any other join gets 14")
 abbrev pub isResting : Phase → Bool
 isResting Resting = true
 isResting (Awaiting board exchange requester acked) = false
 isResting (ForwardDue board requester) = false
 isResting (ReturnDue board) = false
+isResting (Seeking position part) = false
 isResting Unknown = false
 
 -- the position of a listed MAC, 0 for a new one
@@ -44,13 +45,17 @@ chosen t k mac = choose (ltb 0 (known t k mac)) (known t k mac) (lowestOf t Free
 abbrev pub isClash : Setup → List Node → ℕ → Bool
 isClash s t p = some (λ q. listedAt t q && eqb (address s q) (address s p)) 41
 
+-- a wait, a forward, return or list due, or an exchange by which a board joins (01, number 14; 02, C-11)
+abbrev pub isBusy : Coordinator → List Node → Bool
+isBusy c t = not (isResting (phaseOf (c .stand))) || ltb 0 (lowestOf t Owed (c .setup .k))
+
 -- when a join is refused, in the order of the numbers: 22, then 12 to 17 (01, "Numbers" and "Order")
 abbrev pub joinRules : Coordinator → List Node → ℕ → ℕ → List (Bool × Refusal)
 joinRules c t kind mac =
     (not (fits c t), StateUnfit) ∷
     (not (isKind kind), BadType) ∷
     (not (isMac mac), BadMac) ∷
-    (not (isResting (phaseOf (c .stand))) || ltb 0 (lowestOf t Owed (c .setup .k)), Busy) ∷
+    (isBusy c t, Busy) ∷
     (eqb (c .held) 1, Held) ∷
     (eqb (chosen t (c .setup .k) mac) 0, Full) ∷
     (eqb (known t (c .setup .k) mac) 0 && isClash (c .setup) t (chosen t (c .setup .k) mac), AddressClash) ∷ []
@@ -61,14 +66,16 @@ joining t k kind mac session =
     choose (ltb 0 (known t k mac)) (renewed (heard (at t (known t k mac))) session) (joinedNode kind mac session)
 
 -- either way the list is owed to every listed board, and further joins are held (01, "Join")
-unfoldable pub joinOf : Coordinator → List Node → ℕ → ℕ → ℕ → After
-joinOf c t kind mac session =
-    ruled (joinRules c t kind mac) (refused c t)
-    (record {
+abbrev pub joinedAs : Coordinator → List Node → ℕ → ℕ → ℕ → After
+joinedAs c t kind mac session =
+    record {
       coordinator = holding c true;
       nodes = oweAll (put t (chosen t (c .setup .k) mac) (joining t (c .setup .k) kind mac session));
       says = rests;
       bytes = [];
       joined = chosen t (c .setup .k) mac;
       dropped = 0;
-    })
+    }
+
+unfoldable pub joinOf : Coordinator → List Node → ℕ → ℕ → ℕ → After
+joinOf c t kind mac session = ruled (joinRules c t kind mac) (refused c t) (joinedAs c t kind mac session)

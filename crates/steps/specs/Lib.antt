@@ -1,6 +1,9 @@
 pub mod After
 pub mod Start
+pub mod Hear
 pub mod Join
+pub mod Seek
+pub mod Discover
 pub mod Turn
 pub mod Receive
 pub mod Quiet

@@ -1,6 +1,6 @@
 -- Quiet (01, "Quiet").
 use Prim.Native.Nat.{ℕ}
-use mathlib.Core.Bool.{Bool, true, false, not}
+use mathlib.Core.Bool.{Bool, false, not}
 use mathlib.Core.List.{List, [], _∷_}
 use lib.Dec.{ltb}
 use Rattle.ground.specs.Choose.{choose}
@@ -14,11 +14,12 @@ use Rattle.board.specs.Wanted.{someListed}
 use Rattle.board.specs.Change.{missed, oweAll}
 use Rattle.coordinator.specs.declared.Coordinator.{Coordinator}
 use Rattle.coordinator.specs.declared.Phase.{Phase}
-use Rattle.coordinator.specs.declared.Phase.the-variants.{Resting, Awaiting, ForwardDue, ReturnDue, Unknown}
+use Rattle.coordinator.specs.declared.Phase.the-variants.{Resting, Awaiting, ForwardDue, ReturnDue, Seeking, Unknown}
 use Rattle.coordinator.specs.Phase.{phaseOf}
 use Rattle.coordinator.specs.Fit.{fits}
 use Rattle.coordinator.specs.Change.{withPhase, holding}
 use Rattle.steps.specs.After.{After, refused, accepted, rests}
+use Rattle.steps.specs.Seek.{quietInSeek}
 use Rattle.steps.specs.Turn.{isAwaiting}
 
 -- joins are held no more where nobody is listed (01, "Join": "until an offer is made or nobody is listed")
@@ -50,6 +51,7 @@ quietValue Resting c t = refused c t NotWaiting
 quietValue (Awaiting board exchange requester acked) c t = choose acked (accepted (withPhase c Resting) t rests []) (missedAt c t board)
 quietValue (ForwardDue board requester) c t = refused c t NotWaiting
 quietValue (ReturnDue board) c t = refused c t NotWaiting
+quietValue (Seeking position part) c t = quietInSeek part position c t
 quietValue Unknown c t = refused c t NotWaiting
 
 -- quiet is refused 22, then 20 without a wait (01, "Numbers")

@@ -1,6 +1,6 @@
 -- Frame: bytes received (01, "Frame (received bytes)").
-use Prim.Native.Nat.{ℕ}
-use mathlib.Core.Bool.{Bool, true, false, not}
+use Prim.Native.Nat.{ℕ, _+_}
+use mathlib.Core.Bool.{Bool, true, false, _&&_, not}
 use mathlib.Core.List.{List, [], _∷_, _++_}
 use lib.ListN.{length, take, drop, replicate}
 use lib.Dec.{eqb, ltb}
@@ -8,7 +8,7 @@ use Rattle.ground.specs.Choose.{choose}
 use Rattle.ground.specs.Bytes.{laid}
 use Rattle.refusal.specs.Refusal.{Told, ruled}
 use Rattle.refusal.specs.declared.Refusal.{Refusal}
-use Rattle.refusal.specs.declared.Refusal.the-variants.{StateUnfit, NotForUs, NotAwaited, NoRoom}
+use Rattle.refusal.specs.declared.Refusal.the-variants.{StateUnfit, NotForUs, NotDiscovering, NotAwaited, NoRoom}
 use Rattle.frame.specs.declared.Header.{Header}
 use Rattle.frame.specs.Frame.{headerOf, lengthByte, readRules}
 use Rattle.board.specs.declared.Node.{Node}
@@ -22,28 +22,57 @@ use Rattle.message.specs.Message.{signedFrame, ackCode}
 use Rattle.accept.specs.declared.Heard.{Heard}
 use Rattle.accept.specs.declared.Heard.the-variants.{Ack, Echo, Deliver, Route, Answer, Refused}
 use Rattle.accept.specs.Accept.{isAck, ackSession, heardAfterOffer, heardAfterList, heardAfterForward, heardAfterReturn}
+use Rattle.accept.specs.Replies.{replyType}
 use Rattle.coordinator.specs.declared.Coordinator.{Coordinator}
 use Rattle.coordinator.specs.declared.Kept.{Kept}
 use Rattle.coordinator.specs.declared.Exchange.{Exchange}
 use Rattle.coordinator.specs.declared.Exchange.the-variants.{Offer, List as Listing, Forward, Return}
 use Rattle.coordinator.specs.declared.Phase.{Phase}
-use Rattle.coordinator.specs.declared.Phase.the-variants.{Resting, Awaiting, ForwardDue, ReturnDue, Unknown}
+use Rattle.coordinator.specs.declared.Phase.the-variants.{Resting, Awaiting, ForwardDue, ReturnDue, Seeking, Unknown}
 use Rattle.coordinator.specs.Phase.{phaseOf}
 use Rattle.coordinator.specs.Fit.{fits}
 use Rattle.coordinator.specs.Change.{withPhase, keeping}
 use Rattle.steps.specs.After.{After, refused, accepted, waits, delivers, transmits, rests}
+use Rattle.steps.specs.Hear.{hear}
+use Rattle.steps.specs.Seek.{isWaiting, sourceIn, soughtIn}
 
 -- the payload of bytes that passed the reader
 abbrev pub payload : List ℕ → List ℕ
 payload b = take (lengthByte b) (drop 10 b)
 
--- the awaited board's address is the source (01, number 6)
+-- the awaited board's address is the source (01, number 6); in an exchange by which a board joins, the source that its part awaits (02, C-11)
 abbrev pub awaits : Phase → Setup → ℕ → Bool
 awaits Resting s source = false
 awaits (Awaiting board exchange requester acked) s source = eqb source (address s board)
 awaits (ForwardDue board requester) s source = false
 awaits (ReturnDue board) s source = false
+awaits (Seeking position part) s source = isWaiting part && eqb source (sourceIn part s position)
 awaits Unknown s source = false
+
+-- an exchange by which a board joins runs (02, C-11)
+abbrev pub isSeeking : Phase → Bool
+isSeeking Resting = false
+isSeeking (Awaiting board exchange requester acked) = false
+isSeeking (ForwardDue board requester) = false
+isSeeking (ReturnDue board) = false
+isSeeking (Seeking position part) = true
+isSeeking Unknown = false
+
+-- the forward now awaited is of the request that this type answers (02, C-11)
+abbrev pub answersForward : Phase → Kept → ℕ → Bool
+answersForward Resting m message = false
+answersForward (Awaiting board Offer requester acked) m message = false
+answersForward (Awaiting board Listing requester acked) m message = false
+answersForward (Awaiting board Forward requester acked) m message = eqb message (m .message + 128)
+answersForward (Awaiting board Return requester acked) m message = false
+answersForward (ForwardDue board requester) m message = false
+answersForward (ReturnDue board) m message = false
+answersForward (Seeking position part) m message = false
+answersForward Unknown m message = false
+
+-- a response of type 0xF9 to 0xFB outside the exchange, unless the forward now awaited is of the request that it answers (02, C-11, number 23)
+abbrev pub isStray : Phase → Kept → ℕ → Bool
+isStray phase m message = replyType message && not (isSeeking phase) && not (answersForward phase m message)
 
 -- what bytes are to the wait that is on: what it takes, or 7, 8, 9 (01, "Frame")
 abbrev pub heardIn : Exchange → ℕ → Bool → Coordinator → List Node → Header → List ℕ → Heard
@@ -51,10 +80,6 @@ heardIn Offer board acked c t h p = heardAfterOffer (h .message) (h .method) (is
 heardIn Listing board acked c t h p = heardAfterList (h .message) (sameList (c .setup .internal) t p)
 heardIn Forward board acked c t h p = heardAfterForward (h .message) (c .kept .message) (isAck (at t board .mac) p) acked
 heardIn Return board acked c t h p = heardAfterReturn (h .message) (isAck (at t board .mac) p)
-
--- a board that is heard has no misses (01, "Frame": "sets the board's misses to 0")
-abbrev pub hear : List Node → ℕ → List Node
-hear t board = put t board (heard (at t board))
 
 -- an accepted ACK with another session replaces it and owes the list to all (01, "Frame"; 000, 7.10.2)
 abbrev pub hearAck : List Node → ℕ → ℕ → List Node
@@ -105,14 +130,17 @@ takenIn Resting c t h p room = refused c t NotAwaited
 takenIn (Awaiting board exchange requester acked) c t h p room = takenAs (heardIn exchange board acked c t h p) exchange board requester c t h p room
 takenIn (ForwardDue board requester) c t h p room = refused c t NotAwaited
 takenIn (ReturnDue board) c t h p room = refused c t NotAwaited
+takenIn (Seeking position part) c t h p room = soughtIn part position c t h p room
 takenIn Unknown c t h p room = refused c t NotAwaited
 
--- when bytes are refused before a wait looks at them: 22, then 1 to 6 (01, "Order"); 7 to 9 and then 11 follow in `takenIn`
+-- when bytes are refused before a wait looks at them: 22, then 1 to 5, 23 and 6 (01, "Order"; 02, C-11); 7 to 9 and then 11 follow in `takenIn`
 abbrev pub receiveRules : Phase → Coordinator → List Node → List ℕ → List (Bool × Refusal)
 receiveRules phase c t b =
     (not (fits c t), StateUnfit) ∷
     (readRules b ++
-    (not (eqb (headerOf b .destination) 255), NotForUs) ∷ (not (awaits phase (c .setup) (headerOf b .source)), NotAwaited) ∷ [])
+    (not (eqb (headerOf b .destination) 255), NotForUs) ∷
+    (isStray phase (c .kept) (headerOf b .message), NotDiscovering) ∷
+    (not (awaits phase (c .setup) (headerOf b .source)), NotAwaited) ∷ [])
 
 unfoldable pub receiveIn : Phase → Coordinator → List Node → List ℕ → ℕ → After
 receiveIn phase c t b room = ruled (receiveRules phase c t b) (refused c t) (takenIn phase c t (headerOf b) (payload b) room)

@@ -1,23 +1,36 @@
 // What a step is told and what it gives. The rules of the steps themselves are the definitions of specs/; the code that
-// meets them stands in the crates start, join, turn, receive and quiet.
+// meets them stands in the crates start, join, turn, receive, quiet and seek.
 use board::Table;
 use coordinator::Coordinator;
 use coordinator::Exchange;
+use coordinator::Part;
 use refusal::Refusal;
 ghost use mathlib.Core.Path.{_≡_};
 ghost use Rattle.steps.specs.After.{told, shown, shows, leaving, refused, resting};
+ghost use Rattle.steps.specs.Seek.{isWaiting};
 
-// What happens to the panel: a board has joined, it is the panel's turn, bytes came in, nothing came in.
+// What happens to the panel: a board has joined, it is the panel's turn, bytes came in, nothing came in, boards without an
+// address are to be looked for.
 pub enum Event {
     Join { kind: u8, mac: u64, session: u64 },
     Turn,
     Frame,
     Quiet,
+    Discover,
 }
 
-// What the panel now does.
+// The waits of the exchange by which a board joins.
+pub enum Seek {
+    Search,
+    Identify,
+    Assign,
+}
+
+// What the panel now does. It waits for a listed board in a kind of exchange, or, in the exchange by which a board joins,
+// for whoever is or will be at the address of a position, listed or not.
 pub enum Answer {
     Wait(usize, Exchange),
+    Seek(usize, Seek),
     Deliver,
     Transmit,
     Rest,
@@ -75,4 +88,18 @@ pub fn resting(coordinator: Coordinator, table: Table, joined: usize, dropped: u
     ensures { λ r. ⌜ shown r ≡ shows (resting coordinator (table .nodes) joined dropped) ⌝ }
 {
     leaving(coordinator, table, Answer::Rest, 0, joined, dropped)
+}
+
+// Whether a part of the exchange by which a board joins waits; in the others a transmission is due.
+pub fn is_waiting(part: Part) -> bool
+    ensures { λ r. ⌜ r ≡ isWaiting part ⌝ }
+{
+    match part {
+        Part::Search => true,
+        Part::IdentifyDue => false,
+        Part::Identify => true,
+        Part::Present => true,
+        Part::AssignDue => false,
+        Part::Assign => true,
+    }
 }

@@ -1,9 +1,9 @@
--- What a turn sends: a good frame, to a listed board's address, from us in our subnet; and what it says in each exchange.
+-- What a turn sends: a good frame, from us, to a listed board's address in our subnet, or in the exchange by which a board joins to the address at stake or to all; and what it says in each exchange.
 use Prim.Native.Nat.{ℕ, _≤_, _<_, min}
 use native.Mathlib.Omega.{arith}
 use mathlib.Core.Path.{_≡_, refl, sym, ap, subst, _∙_}
-use mathlib.Core.Logic.{inl, inr}
-use mathlib.Core.Bool.{Bool, true, false}
+use mathlib.Core.Logic.{_⊎_, inl, inr}
+use mathlib.Core.Bool.{Bool, true, false, _&&_, not, false≢true}
 use mathlib.Core.List.{List, [], _∷_, _++_}
 use lib.ListN.{length, take, length-take}
 use lib.Dec.{eqb, ltb}
@@ -11,8 +11,9 @@ use borrow.Author.Tests.{ltb-true, not-false}
 use Rattle.ground.specs.Choose.{choose}
 use Rattle.ground.proofs.Choices.{and-left}
 use Rattle.ground.proofs.Firsts.{FirstCase}
-use Rattle.refusal.specs.Refusal.{gives}
-use Rattle.refusal.proofs.Rules.{Passed, passed, gave, ruled-through}
+use Rattle.refusal.specs.Refusal.{Told, gives}
+use Rattle.refusal.proofs.Numbers.{not-zero}
+use Rattle.refusal.proofs.Rules.{Passed, passed, unrefused}
 use Rattle.frame.specs.declared.Header.{Header}
 use Rattle.frame.specs.Frame.{fields, headerOf, lengthByte, reading, payloadOf, frameOf}
 use Rattle.frame.proofs.RoundTrip.{reads-back, reads-back-payload}
@@ -24,34 +25,49 @@ use Rattle.board.specs.Round.{nextListed}
 use Rattle.board.proofs.LowestWanted.{lowest-case}
 use Rattle.board.proofs.NextListed.{next-nearest}
 use Rattle.setup.specs.Setup.{address}
-use Rattle.setup.specs.Fitness.{Position}
+use Rattle.setup.specs.Fitness.{Position, FitSetup}
 use Rattle.setup.proofs.Apart.{address-from, address-upTo}
 use Rattle.nodelist.specs.List.{nodeList}
-use Rattle.message.specs.Message.{toBoard, ownHeader, signed, offerCode}
-use Rattle.message.proofs.Messages.{signed-small, list-small}
+use Rattle.message.specs.Message.{toBoard, ownHeader, signed, offerCode, broadcastHeader, assignment}
+use Rattle.message.proofs.Messages.{signed-small, list-small, assignment-small}
 use Rattle.coordinator.specs.declared.Coordinator.{Coordinator}
 use Rattle.coordinator.specs.declared.Kept.{Kept}
 use Rattle.coordinator.specs.declared.Exchange.{Exchange}
 use Rattle.coordinator.specs.declared.Exchange.the-variants.{Offer, List as Listing, Forward, Return}
+use Rattle.coordinator.specs.declared.Part.the-variants.{Search, IdentifyDue, Identify, Present, AssignDue, Assign}
 use Rattle.coordinator.specs.declared.Phase.{Phase}
-use Rattle.coordinator.specs.declared.Phase.the-variants.{Resting, Awaiting, ForwardDue, ReturnDue, Unknown}
+use Rattle.coordinator.specs.declared.Phase.the-variants.{Resting, Awaiting, ForwardDue, ReturnDue, Seeking, Unknown}
 use Rattle.coordinator.specs.Phase.{phaseOf}
 use Rattle.coordinator.specs.Fit.{fits}
-use Rattle.coordinator.proofs.Fitting.{Board, fit-told, some-listed, board-listed, due-forward, due-return, due-response, request-told, response-told}
-use Rattle.steps.specs.declared.Answer.the-variants.{Wait}
-use Rattle.steps.specs.After.{After, exchangeNumber, refused, waits}
-use Rattle.steps.specs.Turn.{Due, dueCarried, dueList, dueOffer, dueOwn, dueIn, owedTo, sent, turnRules, turnIn, turnOf}
+use Rattle.coordinator.proofs.Fitting.{Board, fit-told, fits-stake, some-listed, board-listed, due-forward, due-return, due-response, request-told, response-told}
+use Rattle.steps.specs.declared.Seek.{Seek as Seeks}
+use Rattle.steps.specs.declared.Seek.the-variants.{Search as ToSearch, Identify as ToIdentify, Assign as ToAssign}
+use Rattle.steps.specs.declared.Answer.{Answer}
+use Rattle.steps.specs.declared.Answer.the-variants.{Wait, Seek, Deliver, Transmit, Rest, Refuse}
+use Rattle.steps.specs.After.{After, refused, waits, seeks}
+use Rattle.steps.specs.Turn.{Due, dueCarried, dueList, dueOffer, dueIdentify, dueAssign, dueOwn, dueIn, isDue, owedTo, sent, turnRules, turnIn, turnOf}
 use Rattle.steps.proofs.Shows.{same-told}
 
--- bytes that go to a board: they read as a good frame, to the address of a listed position, from 255, in our subnet (01, "Turn" and "Forward and return")
-pub record Goes (c : Coordinator) (t : List Node) (board : ℕ) (bytes : List ℕ) : Type 0 where
+-- bytes that go to a position of the pool: they read as a good frame, to its address, from 255, in our subnet (01, "Turn" and "Forward and return"; 02, C-11)
+pub record Reaches (c : Coordinator) (position : ℕ) (bytes : List ℕ) : Type 0 where
   pub good : reading bytes ≡ gives (fields (headerOf bytes) ++ lengthByte bytes ∷ [])
-  pub listed : listedAt t board ≡ true
-  pub destination : headerOf bytes .destination ≡ address (c .setup) board
+  pub destination : headerOf bytes .destination ≡ address (c .setup) position
   pub from : 1 ≤ headerOf bytes .destination
   pub upTo : headerOf bytes .destination ≤ 254
   pub source : headerOf bytes .source ≡ 255
   pub subnet : headerOf bytes .subnet ≡ c .setup .subnet
+
+-- bytes that go to a board: it is listed at the position that they go to
+pub record Goes (c : Coordinator) (t : List Node) (board : ℕ) (bytes : List ℕ) : Type 0 where
+  pub listed : listedAt t board ≡ true
+  pub reaches : Reaches c board bytes
+
+-- bytes that go to whoever has no address yet: they read as a good frame, to 0, from 255, in subnet 0 (02, C-11; 003, 6.6 and 6.7)
+pub record Broadcast (bytes : List ℕ) : Type 0 where
+  pub good : reading bytes ≡ gives (fields (headerOf bytes) ++ lengthByte bytes ∷ [])
+  pub destination : headerOf bytes .destination ≡ 0
+  pub source : headerOf bytes .source ≡ 255
+  pub subnet : headerOf bytes .subnet ≡ 0
 
 -- what bytes hold besides: node type, type, packet number, method, parameters 1 and 2, and the payload
 pub record Holds (kind message packet method parameter1 parameter2 : ℕ) (payload bytes : List ℕ) : Type 0 where
@@ -79,28 +95,93 @@ Says c t Listing b bytes = (b ≡ owedTo c t) × Own t b 20 0 (nodeList (c .setu
 Says c t Forward b bytes = (q : ℕ) × (phaseOf (c .stand) ≡ ForwardDue b q) × Carries (c .kept) (indexOf t q) bytes
 Says c t Return b bytes = (phaseOf (c .stand) ≡ ReturnDue b) × Carries (c .kept) 0 bytes
 
-module _ (c : Coordinator) (t : List Node) where
-  -- what is due in a phase is one of four
-  data DueCase : Phase → Due → Type 0 where
-    returning : (b : ℕ) → DueCase (ReturnDue b) (dueCarried c t b Return 0 0)
-    forwarding : (b q : ℕ) → DueCase (ForwardDue b q) (dueCarried c t b Forward q (indexOf t q))
-    listing : (p : Phase) → 0 < owedTo c t → DueCase p (dueList c t (owedTo c t))
-    offering : (p : Phase) → DueCase p (dueOffer c t (nextListed t (c .setup .k) (c .last)))
+-- what the bytes of a turn say in the exchange by which a board joins: Get Node ID goes to the address at stake, without a payload; Set Address goes to all,
+-- with that address, our subnet, and MAC and session of what was discovered; a discovery is no turn's (02, C-11; 003, Tables 59 and 61)
+abbrev pub Asks : Coordinator → List Node → Seeks → ℕ → List ℕ → Type 0
+Asks c t ToSearch p bytes = ⊥
+Asks c t ToIdentify p bytes = (phaseOf (c .stand) ≡ Seeking p IdentifyDue) × Reaches c p bytes × Own t p 123 0 [] bytes
+Asks c t ToAssign p bytes = (phaseOf (c .stand) ≡ Seeking p AssignDue) × Broadcast bytes × Holds 165 122 0 0 0 0 (assignment (c .setup) p (c .found .mac) (c .found .session)) bytes
 
-  own-case : (p : Phase) → DueCase p (dueOwn c t)
+-- a frame of ours to a position of the pool reaches it
+pub frame-reaches : (c : Coordinator) (h : Header) (p : List ℕ) (position : ℕ) → FitSetup (c .setup) → Position (c .setup .k) position → length p ≤ 240 → h .destination ≡ address (c .setup) position → h .source ≡ 255 → h .subnet ≡ c .setup .subnet → Reaches c position (frameOf h p)
+unfolding frameOf
+frame-reaches c h p position fit here small destination source subnet =
+    record {
+      good = reads-back h p small;
+      destination = destination;
+      from = rw destination (address-from (c .setup) fit position here);
+      upTo = rw destination (address-upTo (c .setup) fit position here);
+      source = source;
+      subnet = subnet;
+    }
+
+-- a broadcast of ours is one
+pub frame-broadcast : (message packet : ℕ) (p : List ℕ) → length p ≤ 240 → Broadcast (frameOf (broadcastHeader message packet) p)
+unfolding frameOf broadcastHeader
+frame-broadcast message packet p small = record { good = reads-back (broadcastHeader message packet) p small; destination = refl; source = refl; subnet = refl }
+
+-- a frame holds what its header says, and its payload
+holds-back : (h : Header) (p : List ℕ) → length p ≤ 240 → Holds (h .kind) (h .message) (h .packet) (h .method) (h .parameter1) (h .parameter2) p (frameOf h p)
+unfolding frameOf
+holds-back h p small = record { kindIs = refl; messageIs = refl; packetIs = refl; methodIs = refl; parameter1Is = refl; parameter2Is = refl; payloadIs = reads-back-payload h p small }
+
+-- and so does a broadcast
+pub broadcast-holds : (message packet : ℕ) (p : List ℕ) → length p ≤ 240 → Holds 165 message packet 0 0 0 p (frameOf (broadcastHeader message packet) p)
+unfolding broadcastHeader
+broadcast-holds message packet p small = holds-back (broadcastHeader message packet) p small
+
+-- an answer that names a wait of the exchange by which a board joins
+isSeek : Answer → Bool
+isSeek (Wait b e) = false
+isSeek (Seek p s) = true
+isSeek Deliver = false
+isSeek Transmit = false
+isSeek Rest = false
+isSeek (Refuse r) = false
+
+-- so such a wait is never one for a listed board
+apart-waits : {A : Type 0} (p b : ℕ) (s : Seeks) (e : Exchange) → seeks p s ≡ waits b e → A
+unfolding isSeek
+apart-waits p b s e h = absurd (false≢true (sym (ap isSeek (same-told (Seek p s) (Wait b e) h))))
+
+module _ (c : Coordinator) (t : List Node) where
+  -- what is due in a phase to a board, in an exchange
+  data ToBoard : Phase → ℕ → Exchange → Due → Type 0 where
+    returning : (b : ℕ) → ToBoard (ReturnDue b) b Return (dueCarried c t b Return 0 0)
+    forwarding : (b q : ℕ) → ToBoard (ForwardDue b q) b Forward (dueCarried c t b Forward q (indexOf t q))
+    listing : (p : Phase) → 0 < owedTo c t → ToBoard p (owedTo c t) Listing (dueList c t (owedTo c t))
+    offering : (p : Phase) → isDue p ≡ false → ToBoard p (nextListed t (c .setup .k) (c .last)) Offer (dueOffer c t (nextListed t (c .setup .k) (c .last)))
+
+  -- what is due in the exchange by which a board joins, with a position at stake
+  data ToStake : Phase → ℕ → Seeks → Due → Type 0 where
+    identifying : (q : ℕ) → ToStake (Seeking q IdentifyDue) q ToIdentify (dueIdentify c t q)
+    assigning : (q : ℕ) → ToStake (Seeking q AssignDue) q ToAssign (dueAssign c t q)
+
+  -- what is due is one or the other, and says so
+  data DueCase (p : Phase) (d : Due) : Type 0 where
+    board : (b : ℕ) (e : Exchange) → d .says ≡ waits b e → ToBoard p b e d → DueCase p d
+    stake : (q : ℕ) (s : Seeks) → d .says ≡ seeks q s → ToStake p q s d → DueCase p d
+
+  own-case : (p : Phase) → isDue p ≡ false → DueCase p (dueOwn c t)
   unfolding choose
-  own-case p = go (ltb 0 (owedTo c t)) refl
+  own-case p idle = go (ltb 0 (owedTo c t)) refl
     where
       go : (b : Bool) → ltb 0 (owedTo c t) ≡ b → DueCase p (choose b (dueList c t (owedTo c t)) (dueOffer c t (nextListed t (c .setup .k) (c .last))))
-      go true e = listing p (ltb-true 0 (owedTo c t) e)
-      go false e = offering p
+      go true e = board _ _ refl (listing p (ltb-true 0 (owedTo c t) e))
+      go false e = board _ _ refl (offering p idle)
 
   due-case : (p : Phase) → DueCase p (dueIn p c t)
-  due-case Resting = own-case Resting
-  due-case (Awaiting b e q a) = own-case (Awaiting b e q a)
-  due-case (ForwardDue b q) = forwarding b q
-  due-case (ReturnDue b) = returning b
-  due-case Unknown = own-case Unknown
+  due-case Resting = own-case Resting refl
+  due-case (Awaiting b e q a) = own-case (Awaiting b e q a) refl
+  due-case (ForwardDue b q) = board _ _ refl (forwarding b q)
+  due-case (ReturnDue b) = board _ _ refl (returning b)
+  due-case (Seeking p Search) = own-case (Seeking p Search) refl
+  due-case (Seeking p IdentifyDue) = stake _ _ refl (identifying p)
+  due-case (Seeking p Identify) = own-case (Seeking p Identify) refl
+  due-case (Seeking p Present) = own-case (Seeking p Present) refl
+  due-case (Seeking p AssignDue) = stake _ _ refl (assigning p)
+  due-case (Seeking p Assign) = own-case (Seeking p Assign) refl
+  due-case Unknown = own-case Unknown refl
 
   -- the list goes to a listed board, for it is owed there
   owed-listed : 0 < owedTo c t → listedAt t (owedTo c t) ≡ true
@@ -109,6 +190,27 @@ module _ (c : Coordinator) (t : List Node) where
       go : FirstCase 0 (wantedAt Owed t) 1 (min (c .setup .k) 40) (owedTo c t) → listedAt t (owedTo c t) ≡ true
       go (inl (none, zeroed)) = absurd (let z : ⊥ = omega arith in z)
       go (inr f) = and-left (listedAt t (owedTo c t)) (eqb (at t (owedTo c t) .owed) 1) (f .passes)
+
+  -- where nothing is due by itself and yet a turn is not refused 19, somebody is listed
+  someone : (p : Phase) → isDue p ≡ false → (not (someListed t) && not (isDue p)) ≡ false → someListed t ≡ true
+  someone p idle passes = go (someListed t) (rw idle at passes)
+    where
+      go : (b : Bool) → (not b && true) ≡ false → b ≡ true
+      go true h = refl
+      go false h = sym h
+
+  -- each header goes to its board
+  record Headed (b : ℕ) (d : Due) : Type 0 where
+    destination : d .header .destination ≡ address (c .setup) b
+    source : d .header .source ≡ 255
+    subnet : d .header .subnet ≡ c .setup .subnet
+
+  case-headed : {p : Phase} {b : ℕ} {e : Exchange} {d : Due} → ToBoard p b e d → Headed b d
+  unfolding toBoard ownHeader
+  case-headed (returning b) = record { destination = refl; source = refl; subnet = refl }
+  case-headed (forwarding b q) = record { destination = refl; source = refl; subnet = refl }
+  case-headed (listing p l) = record { destination = refl; source = refl; subnet = refl }
+  case-headed (offering p idle) = record { destination = refl; source = refl; subnet = refl }
 
   module _ (fit : fits c t ≡ true) where
     -- an offer goes to a listed board, where somebody is listed
@@ -119,113 +221,119 @@ module _ (c : Coordinator) (t : List Node) where
         one = board-listed c t fit _ (some-listed t s)
 
     -- so does a forward or a return, for its phase is fit
-    case-listed : someListed t ≡ true → {p : Phase} {d : Due} → phaseOf (c .stand) ≡ p → DueCase p d → listedAt t (d .board) ≡ true
+    case-listed : {p : Phase} {b : ℕ} {e : Exchange} {d : Due} → (not (someListed t) && not (isDue p)) ≡ false → phaseOf (c .stand) ≡ p → ToBoard p b e d → listedAt t b ≡ true
     case-listed s e (returning b) = due-return c t fit e .listed
     case-listed s e (forwarding b q) = due-forward c t fit e .board .listed
     case-listed s e (listing p l) = owed-listed l
-    case-listed s e (offering p) = next-board s
+    case-listed s e (offering p idle) = next-board (someone p idle s)
 
-    -- a payload that is due fits a frame
-    case-small : {p : Phase} {d : Due} → phaseOf (c .stand) ≡ p → DueCase p d → length (d .payload) ≤ 240
+    -- a payload that is due to a board fits a frame
+    case-small : {p : Phase} {b : ℕ} {e : Exchange} {d : Due} → phaseOf (c .stand) ≡ p → ToBoard p b e d → length (d .payload) ≤ 240
     case-small e (returning b) = omega (arith, length-take (c .kept .length) (c .kept .payload), response-told (c .kept) (due-response c t fit e) .payload)
     case-small e (forwarding b q) = omega (arith, length-take (c .kept .length) (c .kept .payload), request-told (c .kept) (due-forward c t fit e .request) .payload)
     case-small e (listing p l) = list-small (c .setup .internal) t
-    case-small e (offering p) = signed-small (c .setup) offerCode
+    case-small e (offering p idle) = signed-small (c .setup) offerCode
 
-    -- the address of a listed board
-    listed-position : (b : ℕ) → listedAt t b ≡ true → Position (c .setup .k) b
-    listed-position b l = record { from = board-listed c t fit b l .from; upTo = board-listed c t fit b l .upTo }
-
-  -- each header goes to its board
-  record Headed (d : Due) : Type 0 where
-    destination : d .header .destination ≡ address (c .setup) (d .board)
-    source : d .header .source ≡ 255
-    subnet : d .header .subnet ≡ c .setup .subnet
-
-  case-headed : {p : Phase} {d : Due} → DueCase p d → Headed d
-  unfolding toBoard ownHeader
-  case-headed (returning b) = record { destination = refl; source = refl; subnet = refl }
-  case-headed (forwarding b q) = record { destination = refl; source = refl; subnet = refl }
-  case-headed (listing p l) = record { destination = refl; source = refl; subnet = refl }
-  case-headed (offering p) = record { destination = refl; source = refl; subnet = refl }
-
-  -- a turn that waits for a board passed every rule, and what was due went to that board in that exchange
-  module _ (room : ℕ) where
-    record Taken (b : ℕ) (e : Exchange) : Type 0 where
-      fit : fits c t ≡ true
-      listed : someListed t ≡ true
-      board : dueIn (phaseOf (c .stand)) c t .board ≡ b
-      exchange : dueIn (phaseOf (c .stand)) c t .exchange ≡ e
-      bytes : turnOf c t room .bytes ≡ frameOf (dueIn (phaseOf (c .stand)) c t .header) (dueIn (phaseOf (c .stand)) c t .payload)
-
-    taken : (b : ℕ) (e : Exchange) → turnOf c t room .says ≡ waits b e → Taken b e
-    unfolding turnIn
-    taken b e h = record { fit = not-false _ (rules .0); listed = not-false _ (rules .1 .1 .0); board = cc same; exchange = cc same; bytes = ap (λ (a : After). a .bytes) (passed (turnRules (phaseOf (c .stand)) c t room) (refused c t) (sent d) rules) }
+    -- the frame of what is due to a board goes to it
+    goes-due : {p : Phase} {b : ℕ} {e : Exchange} {d : Due} → (not (someListed t) && not (isDue p)) ≡ false → phaseOf (c .stand) ≡ p → ToBoard p b e d → Goes c t b (frameOf (d .header) (d .payload))
+    goes-due {p} {b} {e} {d} s q k = record { listed = there; reaches = frame-reaches c (d .header) (d .payload) b (fit-told c t fit .setup) position (case-small q k) (headed .destination) (headed .source) (headed .subnet) }
       where
-        d : Due
-        d = dueIn (phaseOf (c .stand)) c t
+        there : listedAt t b ≡ true
+        there = case-listed s q k
 
-        given : Passed (turnRules (phaseOf (c .stand)) c t room) × (1 ∷ d .board ∷ exchangeNumber (d .exchange) ∷ [] ≡ 1 ∷ b ∷ exchangeNumber e ∷ [])
-        given = gave (turnRules (phaseOf (c .stand)) c t room) _ _ (sym (ruled-through (λ (a : After). a .says) (turnRules (phaseOf (c .stand)) c t room) (refused c t) (sent d)) ∙ h)
+        position : Position (c .setup .k) b
+        position = record { from = board-listed c t fit b there .from; upTo = board-listed c t fit b there .upTo }
 
-        rules : Passed (turnRules (phaseOf (c .stand)) c t room)
-        rules = given .0
+        headed : Headed b d
+        headed = case-headed k
 
-        same : Wait (d .board) (d .exchange) ≡ Wait b e
-        same = same-told (Wait (d .board) (d .exchange)) (Wait b e) (ap gives (given .1))
+    -- and says what its exchange asks
+    says-due : {p : Phase} {b : ℕ} {e : Exchange} {d : Due} → phaseOf (c .stand) ≡ p → ToBoard p b e d → Says c t e b (frameOf (d .header) (d .payload))
+    unfolding toBoard ownHeader
+    says-due e (returning b) = (e, holds-back _ _ (case-small e (returning b)))
+    says-due e (forwarding b q) = (q, e, holds-back _ _ (case-small e (forwarding b q)))
+    says-due e (listing p l) = (refl, holds-back _ _ (case-small e (listing p l)))
+    says-due e (offering p idle) = (refl, holds-back _ _ (case-small e (offering p idle)))
 
--- a frame holds what its header says, and its payload
-holds-back : (h : Header) (p : List ℕ) → length p ≤ 240 → Holds (h .kind) (h .message) (h .packet) (h .method) (h .parameter1) (h .parameter2) p (frameOf h p)
-unfolding frameOf
-holds-back h p small = record { kindIs = refl; messageIs = refl; packetIs = refl; methodIs = refl; parameter1Is = refl; parameter2Is = refl; payloadIs = reads-back-payload h p small }
+    -- and that of what the exchange by which a board joins has due goes where it asks
+    asks-due : {p : Phase} {q : ℕ} {s : Seeks} {d : Due} → phaseOf (c .stand) ≡ p → ToStake p q s d → Asks c t s q (frameOf (d .header) (d .payload))
+    unfolding ownHeader broadcastHeader
+    asks-due e (identifying q) = (e, frame-reaches c _ [] q (fit-told c t fit .setup) (fits-stake c t fit e .0) (omega arith) refl refl refl, holds-back _ _ (omega arith))
+    asks-due e (assigning q) = (e, frame-broadcast 122 0 _ small, broadcast-holds 122 0 _ small)
+      where
+        small : length (assignment (c .setup) q (c .found .mac) (c .found .session)) ≤ 240
+        small = assignment-small (c .setup) q (c .found .mac) (c .found .session)
 
-module _ (c : Coordinator) (t : List Node) where
-  -- the frame of what is due goes to its board
-  goes-due : fits c t ≡ true → someListed t ≡ true → {p : Phase} {d : Due} → phaseOf (c .stand) ≡ p → DueCase c t p d → Goes c t (d .board) (frameOf (d .header) (d .payload))
-  unfolding frameOf
-  goes-due fit s {p} {d} e k =
-      record {
-        good = reads-back (d .header) (d .payload) (case-small c t fit e k);
-        listed = there;
-        destination = headed .destination;
-        from = rw (headed .destination) (address-from (c .setup) (fit-told c t fit .setup) (d .board) (listed-position c t fit (d .board) there));
-        upTo = rw (headed .destination) (address-upTo (c .setup) (fit-told c t fit .setup) (d .board) (listed-position c t fit (d .board) there));
-        source = headed .source;
-        subnet = headed .subnet;
-      }
-    where
-      there : listedAt t (d .board) ≡ true
-      there = case-listed c t fit s e k
-
-      headed : Headed c t d
-      headed = case-headed c t k
-
-  -- and says what its exchange asks
-  says-due : {p : Phase} {d : Due} → phaseOf (c .stand) ≡ p → DueCase c t p d → length (d .payload) ≤ 240 → Says c t (d .exchange) (d .board) (frameOf (d .header) (d .payload))
-  unfolding toBoard ownHeader
-  says-due e (returning b) small = (e, holds-back _ _ small)
-  says-due e (forwarding b q) small = (q, e, holds-back _ _ small)
-  says-due e (listing p l) small = (refl, holds-back _ _ small)
-  says-due e (offering p) small = (refl, holds-back _ _ small)
-
-  module _ (room b : ℕ) (e : Exchange) (waiting : turnOf c t room .says ≡ waits b e) where
-    k : Taken c t room b e
-    k = taken c t room b e waiting
-
+  -- a turn that is not refused passed every rule, and sends what is due
+  module _ (room : ℕ) where
     abbrev d : Due
     d = dueIn (phaseOf (c .stand)) c t
 
-    due : DueCase c t (phaseOf (c .stand)) d
-    due = due-case c t (phaseOf (c .stand))
+    record Taken : Type 0 where
+      fit : fits c t ≡ true
+      someone : (not (someListed t) && not (isDue (phaseOf (c .stand)))) ≡ false
+      is : turnOf c t room ≡ sent d
 
-    -- whatever a turn writes goes to the board that it then waits for
-    pub turn-goes : Goes c t b (turnOf c t room .bytes)
-    turn-goes = subst (λ (x : List ℕ). Goes c t b x) (sym (k .bytes)) (subst (λ (x : ℕ). Goes c t x (frameOf (d .header) (d .payload))) (k .board) (goes-due (k .fit) (k .listed) refl due))
+    taken : turnOf c t room .says .number ≡ 0 → Taken
+    unfolding turnIn
+    taken h = record { fit = not-false _ (rules .0); someone = rules .1 .1 .0; is = passed (turnRules (phaseOf (c .stand)) c t room) (refused c t) (sent d) rules }
+      where
+        rules : Passed (turnRules (phaseOf (c .stand)) c t room)
+        rules = unrefused (λ (a : After). a .says .number ≡ 0) (turnRules (phaseOf (c .stand)) c t room) (refused c t) (sent d) (λ q. not-zero q) h
 
-    -- and says what the exchange asks
-    pub turn-says : Says c t e b (turnOf c t room .bytes)
-    turn-says =
-        subst (λ (x : Exchange). Says c t x b (turnOf c t room .bytes)) (k .exchange)
-        (subst (λ (x : ℕ). Says c t (d .exchange) x (turnOf c t room .bytes)) (k .board)
-        (subst (λ (x : List ℕ). Says c t (d .exchange) (d .board) x) (sym (k .bytes))
-        (says-due refl due (case-small c t (k .fit) refl due))))
+    due : DueCase (phaseOf (c .stand)) d
+    due = due-case (phaseOf (c .stand))
+
+    -- it waits: for a board in an exchange, or for whoever is or will be at the address at stake
+    pub turn-waits : turnOf c t room .says .number ≡ 0 → ((b : ℕ) × (e : Exchange) × (turnOf c t room .says ≡ waits b e)) ⊎ ((p : ℕ) × (s : Seeks) × (turnOf c t room .says ≡ seeks p s))
+    turn-waits h = go due
+      where
+        said : turnOf c t room .says ≡ d .says
+        said = ap (λ (a : After). a .says) (taken h .is)
+
+        go : DueCase (phaseOf (c .stand)) d → ((b : ℕ) × (e : Exchange) × (turnOf c t room .says ≡ waits b e)) ⊎ ((p : ℕ) × (s : Seeks) × (turnOf c t room .says ≡ seeks p s))
+        go (board b e w k) = inl (b, e, said ∙ w)
+        go (stake p s w k) = inr (p, s, said ∙ w)
+
+    module _ (b : ℕ) (e : Exchange) (waiting : turnOf c t room .says ≡ waits b e) where
+      k : Taken
+      k = taken (ap (λ (a : Told). a .number) waiting)
+
+      -- what was due went to that board in that exchange
+      to-board : ToBoard (phaseOf (c .stand)) b e d
+      to-board = go due
+        where
+          said : d .says ≡ waits b e
+          said = ap (λ (a : After). a .says) (sym (k .is)) ∙ waiting
+
+          go : DueCase (phaseOf (c .stand)) d → ToBoard (phaseOf (c .stand)) b e d
+          go (board b′ e′ w x) = subst (λ (y : ℕ). ToBoard (phaseOf (c .stand)) y e d) (cc same) (subst (λ (y : Exchange). ToBoard (phaseOf (c .stand)) b′ y d) (cc same) x)
+            where
+              same : Wait b′ e′ ≡ Wait b e
+              same = same-told (Wait b′ e′) (Wait b e) (sym w ∙ said)
+          go (stake p s w x) = apart-waits p b s e (sym w ∙ said)
+
+      -- whatever a turn writes goes to the board that it then waits for
+      pub turn-goes : Goes c t b (turnOf c t room .bytes)
+      turn-goes = subst (λ (a : After). Goes c t b (a .bytes)) (sym (k .is)) (goes-due (k .fit) (k .someone) refl to-board)
+
+      -- and says what the exchange asks
+      pub turn-says : Says c t e b (turnOf c t room .bytes)
+      turn-says = subst (λ (a : After). Says c t e b (a .bytes)) (sym (k .is)) (says-due (k .fit) refl to-board)
+
+    -- in the exchange by which a board joins it goes to the address at stake or to all, and says what is asked there
+    pub turn-asks : (p : ℕ) (s : Seeks) → turnOf c t room .says ≡ seeks p s → Asks c t s p (turnOf c t room .bytes)
+    turn-asks p s seeking = subst (λ (a : After). Asks c t s p (a .bytes)) (sym (k .is)) (asks-due (k .fit) refl (go due))
+      where
+        k : Taken
+        k = taken (ap (λ (a : Told). a .number) seeking)
+
+        said : d .says ≡ seeks p s
+        said = ap (λ (a : After). a .says) (sym (k .is)) ∙ seeking
+
+        go : DueCase (phaseOf (c .stand)) d → ToStake (phaseOf (c .stand)) p s d
+        go (board b e w x) = apart-waits p b s e (sym said ∙ w)
+        go (stake p′ s′ w x) = subst (λ (y : ℕ). ToStake (phaseOf (c .stand)) y s d) (cc same) (subst (λ (y : Seeks). ToStake (phaseOf (c .stand)) p′ y d) (cc same) x)
+          where
+            same : Seek p′ s′ ≡ Seek p s
+            same = same-told (Seek p′ s′) (Seek p s) (sym w ∙ said)

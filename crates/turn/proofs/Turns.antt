@@ -1,7 +1,7 @@
 -- What a turn is, by the tests in their order.
 use Prim.Native.Nat.{ℕ}
 use mathlib.Core.Path.{_≡_, refl}
-use mathlib.Core.Bool.{Bool, true, false, not}
+use mathlib.Core.Bool.{Bool, true, false, _&&_, not}
 use mathlib.Core.List.{List}
 use Rattle.ground.specs.Choose.{choose}
 use Rattle.refusal.specs.declared.Refusal.the-variants.{StateUnfit, AwaitingReply, NobodyListed}
@@ -12,7 +12,7 @@ use Rattle.coordinator.specs.declared.Phase.{Phase}
 use Rattle.coordinator.specs.Phase.{phaseOf}
 use Rattle.coordinator.specs.Fit.{fits}
 use Rattle.steps.specs.After.{refused}
-use Rattle.steps.specs.Turn.{dueIn, isAwaiting, turnIn, turnOf}
+use Rattle.steps.specs.Turn.{dueIn, isAwaiting, isDue, turnIn, turnOf}
 use Rattle.turn.specs.Sending.{sending}
 
 module _ (c : Coordinator) (t : List Node) (room : ℕ) {f : Bool} (fit : f ≡ fits c t) where
@@ -25,11 +25,11 @@ module _ (c : Coordinator) (t : List Node) (room : ℕ) {f : Bool} (fit : f ≡ 
     unfolding turnIn choose
     turn-awaiting h = rw (← phase, ← fit, passes, ← awaiting, h) refl
 
-    module _ (idle : a ≡ false) {s : Bool} (listed : s ≡ someListed t) where
-      pub turn-nobody : not s ≡ true → turnOf c t room ≡ refused c t NobodyListed
+    module _ (idle : a ≡ false) {s q : Bool} (listed : s ≡ someListed t) (due : q ≡ isDue p) where
+      pub turn-nobody : (not s && not q) ≡ true → turnOf c t room ≡ refused c t NobodyListed
       unfolding turnIn choose
-      turn-nobody h = rw (← phase, ← fit, passes, ← awaiting, idle, ← listed, h) refl
+      turn-nobody h = rw (← phase, ← fit, passes, ← awaiting, idle, ← listed, ← due, h) refl
 
-      pub turn-sends : not s ≡ false → turnOf c t room ≡ sending (dueIn p c t) c t room
+      pub turn-sends : (not s && not q) ≡ false → turnOf c t room ≡ sending (dueIn p c t) c t room
       unfolding turnIn choose sending
-      turn-sends h = rw (← phase, ← fit, passes, ← awaiting, idle, ← listed, h) refl
+      turn-sends h = rw (← phase, ← fit, passes, ← awaiting, idle, ← listed, ← due, h) refl

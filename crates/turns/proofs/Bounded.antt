@@ -1,4 +1,4 @@
--- "and is offered the bus within k times (2k² + 2k + 8) accepted steps, counted from any moment" (00, demand 3).
+-- "and is offered the bus within k times (2k² + 2k + 8) accepted steps, counted from any moment" (00, demand 3), 8 become 14 (02, C-11).
 use Prim.Native.Nat.{ℕ, _+_, _*_, _≤_}
 use native.Mathlib.Omega.{arith}
 use mathlib.Core.Path.{_≡_, sym, ap, _∙_}

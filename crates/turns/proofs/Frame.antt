@@ -23,17 +23,19 @@ use Rattle.coordinator.specs.declared.Coordinator.{Coordinator}
 use Rattle.coordinator.specs.declared.Exchange.{Exchange}
 use Rattle.coordinator.specs.declared.Exchange.the-variants.{Offer, List as Listing, Forward, Return}
 use Rattle.coordinator.specs.declared.Phase.{Phase}
-use Rattle.coordinator.specs.declared.Phase.the-variants.{Resting, Awaiting, ForwardDue, ReturnDue, Unknown}
+use Rattle.coordinator.specs.declared.Phase.the-variants.{Resting, Awaiting, ForwardDue, ReturnDue, Seeking, Unknown}
 use Rattle.coordinator.specs.Phase.{phaseOf}
 use Rattle.coordinator.specs.Fit.{fits}
 use Rattle.coordinator.specs.Change.{withPhase, keeping}
 use Rattle.coordinator.proofs.Phases.{forwarding, forward-due, return-due}
 use Rattle.coordinator.proofs.Fitting.{Board, awaited}
 use Rattle.steps.specs.After.{refused, accepted, waits, delivers, transmits, rests}
-use Rattle.steps.specs.Receive.{payload, hear, hearAck, keptOf, acking, takenAs, takenIn, receiveRules, receiveIn, receiveOf}
+use Rattle.steps.specs.Hear.{hear}
+use Rattle.steps.specs.Receive.{payload, hearAck, keptOf, acking, takenAs, takenIn, receiveRules, receiveIn, receiveOf}
 use Rattle.lasting.proofs.Heard.{offer-heard, list-heard, forward-heard, return-heard}
 use Rattle.turns.specs.Potential.{underWay}
 use Rattle.turns.proofs.Moves.{Moves, refusing, guarded, Plain, plain-rests, plain-delivers, plain-transmits, plain-forward, put-keeps, moved, ended}
+use Rattle.turns.proofs.Seek.{sought-moves}
 
 module _ (c : Coordinator) (t : List Node) (h : fits c t ≡ true) where
   module _ {b q : ℕ} {e : Exchange} {a : Bool} (w : phaseOf (c .stand) ≡ Awaiting b e q a) where
@@ -113,6 +115,7 @@ module _ (c : Coordinator) (t : List Node) (h : fits c t ≡ true) where
   value-moves hd p room (Awaiting b Return q a) w = after-return b q a hd p room w _ _
   value-moves hd p room (ForwardDue b q) w = refusing c t NotAwaited
   value-moves hd p room (ReturnDue b) w = refusing c t NotAwaited
+  value-moves hd p room (Seeking position part) w = sought-moves c t h position hd p room part w
   value-moves hd p room Unknown w = refusing c t NotAwaited
 
   pub frame-moves : (bytes : List ℕ) (room : ℕ) → Moves c t (receiveOf c t bytes room)

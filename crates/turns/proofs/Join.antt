@@ -3,11 +3,12 @@ use Prim.Native.Nat.{ℕ, _≤_, _<_}
 use native.Mathlib.Omega.{arith}
 use mathlib.Core.Path.{_≡_, refl}
 use mathlib.Core.Bool.{true, false, not, false≢true}
-use mathlib.Core.List.{List}
+use mathlib.Core.List.{List, []}
 use lib.Dec.{eqb, ltb}
 use borrow.Author.Tests.{not-false}
 use Rattle.ground.proofs.Choices.{neither}
-use Rattle.refusal.proofs.Rules.{Passed}
+use Rattle.refusal.specs.declared.Refusal.{Refusal}
+use Rattle.refusal.proofs.Rules.{Passed, each, by-rules}
 use Rattle.board.specs.declared.Node.{Node}
 use Rattle.board.specs.declared.Wanted.the-variants.{Listed, Owed}
 use Rattle.board.specs.Table.{put}
@@ -16,21 +17,29 @@ use Rattle.board.specs.Change.{oweAll}
 use Rattle.board.proofs.Counts.{count-put-most, count-owe-all, owed-listed}
 use Rattle.coordinator.specs.declared.Coordinator.{Coordinator}
 use Rattle.coordinator.specs.declared.Phase.{Phase}
-use Rattle.coordinator.specs.declared.Phase.the-variants.{Resting, Awaiting, ForwardDue, ReturnDue, Unknown}
+use Rattle.coordinator.specs.declared.Phase.the-variants.{Resting, Awaiting, ForwardDue, ReturnDue, Seeking, Unknown}
 use Rattle.coordinator.specs.Phase.{phaseOf}
 use Rattle.coordinator.specs.Fit.{fits}
 use Rattle.coordinator.specs.Change.{holding}
 use Rattle.coordinator.proofs.Fitting.{fits-forty}
-use Rattle.steps.specs.Join.{isResting, chosen, joining, joinRules, joinOf}
+use Rattle.steps.specs.After.{After, refused, rests}
+use Rattle.steps.specs.Join.{isResting, isBusy, chosen, joining, joinRules, joinOf}
 use Rattle.turns.specs.Potential.{underWay, potential}
 use Rattle.turns.proofs.Numbers.{ahead-join}
-use Rattle.turns.proofs.Moves.{Moves, works, guarded, plain-rests, listed-most}
+use Rattle.turns.proofs.Moves.{Moves, Works, works, guarded, plain-rests, listed-most}
 
+-- the last one offered stays, and the potential is no higher while somebody is listed
+pub record Lowers (c : Coordinator) (t : List Node) (a : After) : Type 0 where
+  pub last : a .coordinator .last ≡ c .last
+  pub most : fits (a .coordinator) (a .nodes) ≡ true → 1 ≤ countOf Listed t → 1 ≤ countOf Listed (a .nodes) → potential (a .coordinator) (a .nodes) ≤ potential c t
+
+-- a phase that rests is the one
 rests-only : (p : Phase) → isResting p ≡ true → p ≡ Resting
 rests-only Resting h = refl
 rests-only (Awaiting b e q a) h = absurd (false≢true h)
 rests-only (ForwardDue b q) h = absurd (false≢true h)
 rests-only (ReturnDue b) h = absurd (false≢true h)
+rests-only (Seeking p part) h = absurd (false≢true h)
 rests-only Unknown h = absurd (false≢true h)
 
 module _ (c : Coordinator) (t : List Node) (h : fits c t ≡ true) where
@@ -46,9 +55,28 @@ module _ (c : Coordinator) (t : List Node) (h : fits c t ≡ true) where
         listed-most (holding c true) (oweAll (put t p n)) f,
       ))
 
-  pub join-moves : (kind mac session : ℕ) → Moves c t (joinOf c t kind mac session)
-  unfolding joinOf
-  join-moves kind mac session = guarded c t (joinRules c t kind mac) _ (λ passed. works (record { said = refl; nobody = plain-rests .1; last = refl; falls = λ f n m. join-falls (chosen t (c .setup .k) mac) (joining t (c .setup .k) kind mac session) (calm passed) (passed .1 .1 .1 .1 .0) f n }))
-    where
-      calm : Passed (joinRules c t kind mac) → phaseOf (c .stand) ≡ Resting
-      calm passed = rests-only (phaseOf (c .stand)) (not-false (isResting (phaseOf (c .stand))) (neither (not (isResting (phaseOf (c .stand)))) (ltb 0 (lowestOf t Owed (c .setup .k))) (passed .1 .1 .1 .0) .0))
+  -- where nothing is waited for or due the panel rests
+  pub idle : isBusy c t ≡ false → phaseOf (c .stand) ≡ Resting
+  idle e = rests-only (phaseOf (c .stand)) (not-false (isResting (phaseOf (c .stand))) (neither (not (isResting (phaseOf (c .stand)))) (ltb 0 (lowestOf t Owed (c .setup .k))) e .0))
+
+  module _ (kind mac session : ℕ) where
+    -- what a join leaves that no rule refuses
+    abbrev value : After
+    value = record { coordinator = holding c true; nodes = oweAll (put t (chosen t (c .setup .k) mac) (joining t (c .setup .k) kind mac session)); says = rests; bytes = []; joined = chosen t (c .setup .k) mac; dropped = 0 }
+
+    -- it is work
+    join-works : Passed (joinRules c t kind mac) → Works c t value
+    join-works passed = record { said = refl; nobody = plain-rests .1; last = refl; falls = λ f n m. join-falls (chosen t (c .setup .k) mac) (joining t (c .setup .k) kind mac session) (idle (passed .1 .1 .1 .0)) (passed .1 .1 .1 .1 .0) f n }
+
+    -- so a join is a refusal, or work
+    pub join-moves : Moves c t (joinOf c t kind mac session)
+    unfolding joinOf
+    join-moves = guarded c t (joinRules c t kind mac) value (λ passed. works (join-works passed))
+
+    -- refused or not, a join leaves the potential no higher
+    pub join-lowers : Lowers c t (joinOf c t kind mac session)
+    unfolding joinOf
+    join-lowers = by-rules (Lowers c t) (joinRules c t kind mac) (refused c t) value (each unchanged (joinRules c t kind mac)) (λ passed. record { last = refl; most = λ f n m. omega (arith, join-works passed .falls f n m) })
+      where
+        unchanged : (r : Refusal) → Lowers c t (refused c t r)
+        unchanged r = record { last = refl; most = λ f n m. omega arith }

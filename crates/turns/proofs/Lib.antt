@@ -1,11 +1,15 @@
 pub mod Numbers
 pub mod Moves
+pub mod Join
+pub mod Discover
+pub mod Seek
 pub mod Quiet
 pub mod Turn
-pub mod Join
 pub mod Frame
 pub mod Turned
 pub mod Counted
 pub mod RoundRobin
+pub mod Sendable
+pub mod Ends
 pub mod NeverStuck
 pub mod Bounded

@@ -25,17 +25,20 @@ use Rattle.coordinator.specs.declared.Coordinator.{Coordinator}
 use Rattle.coordinator.specs.declared.Exchange.{Exchange}
 use Rattle.coordinator.specs.declared.Exchange.the-variants.{Offer, List as Listing, Forward, Return}
 use Rattle.coordinator.specs.declared.Kept.{Kept}
+use Rattle.coordinator.specs.declared.Found.{Found}
 use Rattle.coordinator.specs.declared.Phase.{Phase}
-use Rattle.coordinator.specs.declared.Phase.the-variants.{Resting, Awaiting, ForwardDue, ReturnDue, Unknown}
-use Rattle.coordinator.specs.Phase.{phaseOf}
+use Rattle.coordinator.specs.declared.Phase.the-variants.{Resting, Awaiting, ForwardDue, ReturnDue, Seeking, Unknown}
+use Rattle.coordinator.specs.Phase.{standOf, phaseOf}
 use Rattle.coordinator.specs.Fit.{fits}
 use Rattle.coordinator.specs.Change.{withPhase, keeping}
 use Rattle.coordinator.proofs.Phases.{Made, resting, phase-back}
 use Rattle.coordinator.proofs.Fitting.{Board, fits-forty, board-listed, fit-told}
-use Rattle.steps.specs.After.{After, refused, accepted, waits, delivers, transmits, rests}
+use Rattle.steps.specs.declared.Seek.{Seek}
+use Rattle.steps.specs.declared.Seek.the-variants.{Search as ToSearch, Identify as ToIdentify, Assign as ToAssign}
+use Rattle.steps.specs.After.{After, refused, accepted, waits, seeks, delivers, transmits, rests}
 use Rattle.series.specs.Series.{isAccepted, offeredTo}
 use Rattle.turns.specs.Potential.{listSteps, unheld, afterOffer, underWay, potential, between}
-use Rattle.turns.proofs.Numbers.{ahead-most}
+use Rattle.turns.proofs.Numbers.{ahead-most, left-most}
 
 -- it refuses, and all is as it was
 pub record Refuses (c : Coordinator) (t : List Node) (a : After) : Type 0 where
@@ -98,6 +101,13 @@ pub plain-return : (board : ℕ) → Plain (waits board Return)
 unfolding choose
 plain-return board = (refl, refl)
 
+-- the waits of the exchange by which a board joins
+pub plain-seeks : (position : ℕ) (s : Seek) → Plain (seeks position s)
+unfolding choose
+plain-seeks position ToSearch = (refl, refl)
+plain-seeks position ToIdentify = (refl, refl)
+plain-seeks position ToAssign = (refl, refl)
+
 -- a wait that ends leaves less under way, where the lists are owed as before or it was no list's
 pub wait-ends : (k b q : ℕ) (e : Exchange) (a : Bool) (old new : ℕ) → new ≤ k → (e ≡ Listing → new ≡ old) → underWay k Resting new < underWay k (Awaiting b e q a) old
 unfolding underWay
@@ -123,10 +133,18 @@ module _ (c : Coordinator) (t : List Node) (h : fits c t ≡ true) where
   pub put-keeps : (w : Wanted) {p : ℕ} (n : Node) → Board c t p → wants w n ≡ wants w (at t p) → countOf w (put t p n) ≡ countOf w t
   put-keeps w {p} n b e = count-kept w t p n (fits-forty c t h) (b .from) (omega (arith, b .upTo, b .few)) e
 
-  -- another phase, another message kept, as many boards listed, less under way
-  pub moved : {q : Phase} (m : Kept) (u : List Node) (says : Told) (bytes : List ℕ) → Made q → Plain says → countOf Listed u ≡ countOf Listed t → underWay (c .setup .k) q (countOf Owed u) < underWay (c .setup .k) (phaseOf (c .stand)) (countOf Owed t) → Moves c t (accepted (withPhase (keeping c m) q) u says bytes)
+  -- the coordinator in another phase, with another message kept and another board discovered
+  abbrev standing : Phase → Kept → Found → Coordinator
+  standing q m f = record { setup = c .setup; last = c .last; held = c .held; searched = c .searched; stand = standOf q; kept = m; found = f }
+
+  -- another phase, another message kept, another board discovered, as many boards listed, less under way
+  pub moved-with : {q : Phase} (m : Kept) (f : Found) (u : List Node) (says : Told) (bytes : List ℕ) → Made q → Plain says → countOf Listed u ≡ countOf Listed t → underWay (c .setup .k) q (countOf Owed u) < underWay (c .setup .k) (phaseOf (c .stand)) (countOf Owed t) → Moves c t (accepted (standing q m f) u says bytes)
   unfolding potential
-  moved {q} m u says bytes made plain same less = works (record { said = plain .0; nobody = plain .1; last = refl; falls = λ f n n′. rw (phase-back made, same) (omega arith) })
+  moved-with {q} m f u says bytes made plain same less = works (record { said = plain .0; nobody = plain .1; last = refl; falls = λ f n n′. rw (phase-back made, same) (omega arith) })
+
+  -- another phase and message, with what was discovered as it was
+  pub moved : {q : Phase} (m : Kept) (u : List Node) (says : Told) (bytes : List ℕ) → Made q → Plain says → countOf Listed u ≡ countOf Listed t → underWay (c .setup .k) q (countOf Owed u) < underWay (c .setup .k) (phaseOf (c .stand)) (countOf Owed t) → Moves c t (accepted (withPhase (keeping c m) q) u says bytes)
+  moved m = moved-with m (c .found)
 
   -- a wait that ends
   pub ended : {b r : ℕ} {e : Exchange} {a : Bool} (u : List Node) (says : Told) (bytes : List ℕ) → phaseOf (c .stand) ≡ Awaiting b e r a → Plain says → countOf Listed u ≡ countOf Listed t → (e ≡ Listing → countOf Owed u ≡ countOf Owed t) → Moves c t (accepted (withPhase c Resting) u says bytes)
@@ -143,9 +161,10 @@ module _ (c : Coordinator) (t : List Node) (h : fits c t ≡ true) where
   under-most (Awaiting b Return q a) = omega arith
   under-most (ForwardDue b q) = omega arith
   under-most (ReturnDue b) = omega arith
+  under-most (Seeking p part) = omega (arith, owed-most t refl, left-most part)
   under-most Unknown = omega arith
 
   -- so the potential is below what there can be between two offers
   pub potential-most : potential c t < between (c .setup .k)
   unfolding potential
-  potential-most = omega (arith, under-most (phaseOf (c .stand)), ahead-most (c .setup .k) (countOf Listed t) (unheld (c .held)) k-least listed-most (one-le (not (eqb (c .held) 1))))
+  potential-most = omega (arith, under-most (phaseOf (c .stand)), ahead-most (c .setup .k) (countOf Listed t) (unheld (c .held)) k-least listed-most (one-le (not (eqb (c .held) 1))), one-le (not (eqb (c .searched) 1)))

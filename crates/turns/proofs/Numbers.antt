@@ -3,7 +3,9 @@ use Prim.Native.Nat.{ℕ, zero, suc, _+_, _-_, _*_, _≤_, _<_}
 use native.Mathlib.Omega.{arith}
 use native.Mathlib.Nat.{mul-suc, mul-le-mul-left, mul-le-mul-right}
 use mathlib.Core.Path.{_≡_, ap}
-use Rattle.turns.specs.Potential.{listSteps, joinSteps, dropSteps, ahead}
+use Rattle.coordinator.specs.declared.Part.{Part}
+use Rattle.coordinator.specs.declared.Part.the-variants.{Search, IdentifyDue, Identify, Present, AssignDue, Assign}
+use Rattle.turns.specs.Potential.{listSteps, joinSteps, dropSteps, leftOf, ahead}
 
 -- a join, which makes one board more at most, leaves room for itself and a list to each of k boards
 pub ahead-join : (k n m : ℕ) → 1 ≤ n → m ≤ n + 1 → ahead k m 0 + joinSteps k ≤ ahead k n 1
@@ -23,6 +25,24 @@ squared (suc j) h = rw (let e : suc j - 1 ≡ j = omega arith in e) (omega arith
 pub ahead-most : (k n joins : ℕ) → 1 ≤ k → n ≤ k → joins ≤ 1 → ahead k n joins ≤ listSteps * (k * k) + 1
 unfolding ahead
 ahead-most k n joins h l o = omega (arith, squared k h, mul-le-mul-left (dropSteps k) (let e : n - 1 + joins ≤ k = omega arith in e), mul-le-mul-right (joinSteps k) o)
+
+-- an exchange by which a board joins has a step left
+pub left-least : (part : Part) → 1 ≤ leftOf part
+left-least Search = omega arith
+left-least IdentifyDue = omega arith
+left-least Identify = omega arith
+left-least Present = omega arith
+left-least AssignDue = omega arith
+left-least Assign = omega arith
+
+-- and once the discovery is started at most five
+pub left-most : (part : Part) → leftOf part ≤ 5
+left-most Search = omega arith
+left-most IdentifyDue = omega arith
+left-most Identify = omega arith
+left-most Present = omega arith
+left-most AssignDue = omega arith
+left-most Assign = omega arith
 
 -- with m the steps that there can be to an offer: coming nearer is worth m of them, whatever the potential becomes
 pub steps-nearer : (m steps near far old new : ℕ) → near < far → new < m → steps + m ≤ near * m + new → steps + 1 + m ≤ far * m + old

@@ -19,7 +19,7 @@ use Rattle.coordinator.specs.declared.Coordinator.{Coordinator}
 use Rattle.coordinator.specs.declared.Exchange.{Exchange}
 use Rattle.coordinator.specs.declared.Exchange.the-variants.{Offer, List as Listing, Forward, Return}
 use Rattle.coordinator.specs.declared.Phase.{Phase}
-use Rattle.coordinator.specs.declared.Phase.the-variants.{Resting, Awaiting, ForwardDue, ReturnDue, Unknown}
+use Rattle.coordinator.specs.declared.Phase.the-variants.{Resting, Awaiting, ForwardDue, ReturnDue, Seeking, Unknown}
 use Rattle.coordinator.specs.Phase.{phaseOf}
 use Rattle.coordinator.specs.Fit.{fits}
 use Rattle.coordinator.specs.Change.{withPhase, holding}
@@ -30,6 +30,7 @@ use Rattle.steps.specs.Quiet.{droppedAt, missedAt, quietValue, quietRules, quie
 use Rattle.turns.specs.Potential.{unheld, underWay, potential}
 use Rattle.turns.proofs.Numbers.{ahead-drop}
 use Rattle.turns.proofs.Moves.{Moves, works, refusing, guarded, plain-rests, listed-most, put-keeps, ended}
+use Rattle.turns.proofs.Seek.{seek-quiet-moves}
 
 -- a wait has at least its end under way
 waiting-least : (k b q : ℕ) (e : Exchange) (a : Bool) (owed : ℕ) → 1 ≤ underWay k (Awaiting b e q a) owed
@@ -86,6 +87,7 @@ module _ (c : Coordinator) (t : List Node) (h : fits c t ≡ true) where
   value-moves (Awaiting b e q a) w = ending w a
   value-moves (ForwardDue b q) w = refusing c t NotWaiting
   value-moves (ReturnDue b) w = refusing c t NotWaiting
+  value-moves (Seeking position part) w = seek-quiet-moves c t h position part w
   value-moves Unknown w = refusing c t NotWaiting
 
   pub quiet-moves : Moves c t (quietOf c t)

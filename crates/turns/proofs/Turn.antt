@@ -23,7 +23,7 @@ use Rattle.board.proofs.Counts.{count-put}
 use Rattle.coordinator.specs.declared.Coordinator.{Coordinator}
 use Rattle.coordinator.specs.declared.Exchange.the-variants.{List as Listing, Forward, Return}
 use Rattle.coordinator.specs.declared.Phase.{Phase}
-use Rattle.coordinator.specs.declared.Phase.the-variants.{Resting, Awaiting, ForwardDue, ReturnDue, Unknown}
+use Rattle.coordinator.specs.declared.Phase.the-variants.{Resting, Awaiting, ForwardDue, ReturnDue, Seeking, Unknown}
 use Rattle.coordinator.specs.Phase.{phaseOf}
 use Rattle.coordinator.specs.Fit.{fits}
 use Rattle.coordinator.proofs.Phases.{listing, forwarding, returning}
@@ -32,6 +32,7 @@ use Rattle.steps.specs.After.{waits}
 use Rattle.steps.specs.Turn.{dueList, dueOffer, dueIn, owedTo, sent, turnRules, turnIn, turnOf}
 use Rattle.turns.specs.Potential.{underWay}
 use Rattle.turns.proofs.Moves.{Moves, offers, guarded, plain-list, plain-forward, plain-return, put-keeps, moved}
+use Rattle.turns.proofs.Seek.{seek-due-moves}
 
 module _ (c : Coordinator) (t : List Node) (h : fits c t ≡ true) where
   -- a list to the lowest position owed: it is owed there no more
@@ -64,6 +65,7 @@ module _ (c : Coordinator) (t : List Node) (h : fits c t ≡ true) where
   value-moves room (Awaiting b e q a) w passed = absurd (false≢true (sym (passed .1 .0)))
   value-moves room (ForwardDue b q) w passed = moved c t h (c .kept) t (waits b Forward) _ (forwarding b q false) (plain-forward b) refl (rw w (omega arith))
   value-moves room (ReturnDue b) w passed = moved c t h (c .kept) t (waits b Return) _ (returning b) (plain-return b) refl (rw w (omega arith))
+  value-moves room (Seeking position part) w passed = seek-due-moves c t h position part (passed .1 .0) w
   value-moves room Unknown w passed = absurd (fits-known c t h w)
 
   pub turn-moves : (room : ℕ) → Moves c t (turnOf c t room)

@@ -13,7 +13,7 @@ use Rattle.setup.specs.declared.Setup.{Setup}
 use Rattle.coordinator.specs.declared.Coordinator.{Coordinator}
 use Rattle.coordinator.proofs.Fitting.{Board, fits-forty, board-listed}
 use Rattle.steps.specs.declared.Event.{Event}
-use Rattle.steps.specs.declared.Event.the-variants.{Join, Turn, Frame, Quiet}
+use Rattle.steps.specs.declared.Event.the-variants.{Join, Turn, Frame, Quiet, Discover}
 use Rattle.steps.specs.After.{After}
 use Rattle.steps.specs.Step.{stepOf}
 use Rattle.series.specs.Series.{Input, World, left, Fresh, after, isAccepted, offeredTo}
@@ -23,6 +23,7 @@ use Rattle.lasting.proofs.Series.{lasting}
 use Rattle.turns.specs.Potential.{potential, between}
 use Rattle.turns.proofs.Moves.{Moves, refuses, offers, works, potential-most}
 use Rattle.turns.proofs.Join.{join-moves}
+use Rattle.turns.proofs.Discover.{discover-moves}
 use Rattle.turns.proofs.Turn.{turn-moves}
 use Rattle.turns.proofs.Frame.{frame-moves}
 use Rattle.turns.proofs.Quiet.{quiet-moves}
@@ -55,6 +56,7 @@ step-moves w i h = go (i .event)
     go Turn = turn-moves (w .coordinator) (w .nodes) h (i .room)
     go Frame = frame-moves (w .coordinator) (w .nodes) h (i .received) (i .room)
     go Quiet = quiet-moves (w .coordinator) (w .nodes) h
+    go Discover = discover-moves (w .coordinator) (w .nodes) h (i .room)
 
 module _ (k p : ℕ) (w : World) (g : Good k w) (l : listedAt (w .nodes) p ≡ true) where
   pub board-good : Board (w .coordinator) (w .nodes) p

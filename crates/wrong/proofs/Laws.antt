@@ -1,7 +1,7 @@
 -- What refutes each statement of demand 3: a fresh start, and facts about a series from there.
-use Prim.Native.Nat.{ℕ}
+use Prim.Native.Nat.{ℕ, _≤_}
 use native.Mathlib.Omega.{arith}
-use mathlib.Core.Path.{_≡_, refl, sym, ap, _∙_}
+use mathlib.Core.Path.{_≡_, sym, ap, _∙_}
 use mathlib.Core.Logic.{_⊎_, inl, inr}
 use mathlib.Core.Bool.{true, false, true≢false, false≢true}
 use mathlib.Core.List.{List, []}
@@ -9,11 +9,16 @@ use lib.ListN.{length}
 use lib.Dec.{eqb, leb}
 use borrow.Author.Tests.{eqb-false, leb-true}
 use Rattle.ground.specs.Below.{among}
+use Rattle.frame.specs.Frame.{headerOf}
+use Rattle.board.specs.Node.{isKind, isMac}
 use Rattle.board.specs.Table.{at, listedAt}
 use Rattle.board.specs.Wanted.{someListed}
+use Rattle.setup.specs.Setup.{isPool}
 use Rattle.series.specs.Series.{left, Input, World, Panel, Fresh, after, isAccepted, offers, accepted, stays}
 use Rattle.series.specs.Observed.{nothing, saw, seen}
-use Rattle.series.specs.Demand.{WhoStays, NoTwoAlike, RoundRobin, Bounded, NeverStuck, Transmits, EndsWait, bound, turnWith, quietWith}
+use Rattle.series.specs.Demand.{WhoStays, NoTwoAlike, RoundRobin, Bounded, NeverStuck, Transmits, EndsWait, bound, joinWith, turnWith, quietWith, Starts, Allowed, TakesJoins}
+use Rattle.series.specs.Exchange.{Runs, comes, reached, isRunning, OneJoin, discoveries, peopled, Seldom}
+use Rattle.series.specs.Wire.{isSending, addressed, OnTheWire}
 
 module _ {P : Panel} {k : ℕ} {w : World} (f : Fresh P k w) (is : List Input) where
   module _ (i : Input) (p : ℕ) where
@@ -24,6 +29,10 @@ module _ {P : Panel} {k : ℕ} {w : World} (f : Fresh P k w) (is : List Input) w
     -- a board leaves the list, and no message to it went unanswered before this one
     pub leaves-early : listedAt (after P w is .nodes) p ≡ true → listedAt (P .step (after P w is) i .nodes) p ≡ false → seen P w nothing is .run p ≡ 0 → WhoStays P → ⊥
     leaves-early listed gone none s = let z : ⊥ = omega (arith, none, s .only k w f is i p (listed, gone) .0) in z
+
+    -- a board leaves the list, and this message was none to it
+    pub leaves-unasked : listedAt (after P w is .nodes) p ≡ true → listedAt (P .step (after P w is) i .nodes) p ≡ false → saw i (P .step (after P w is) i) (seen P w nothing is) .run p ≡ 2 → WhoStays P → ⊥
+    leaves-unasked listed gone two s = let z : ⊥ = omega (arith, two, s .only k w f is i p (listed, gone) .1) in z
 
   module _ (js : List Input) (p : ℕ) (boards : List ℕ) where
     -- a board stays listed and is not among k offers
@@ -55,3 +64,27 @@ module _ {P : Panel} {k : ℕ} {w : World} (f : Fresh P k w) (is : List Input) w
   -- two positions are listed with one MAC
   pub alike : (p q mac : ℕ) → eqb p q ≡ false → listedAt (after P w is .nodes) p ≡ true → listedAt (after P w is .nodes) q ≡ true → at (after P w is .nodes) p .mac ≡ mac → at (after P w is .nodes) q .mac ≡ mac → NoTwoAlike P → ⊥
   alike p q mac apart here there one other s = eqb-false p q apart (s .macs k w f is p q here there (one ∙ sym other))
+
+  -- an exchange that goes on through a series has joined twice
+  pub joins-again : (d : Input) (js : List Input) → Runs P (after P w is) d js → comes P (after P w is) d js .joins ≡ 2 → OneJoin P → ⊥
+  joins-again d js runs twice s = let z : ⊥ = omega (arith, twice, s .joined k w f is d js runs (let l : 1 ≤ comes P (after P w is) d js .joins = omega (arith, twice) in l) .0) in z
+
+  -- while an exchange runs a join is taken
+  pub joins-inside : (d : Input) (js : List Input) → Runs P (after P w is) d js → isRunning P (reached P (after P w is) d js) (comes P (after P w is) d js) ≡ true → (kind mac session : ℕ) → isKind kind ≡ true → isMac mac ≡ true → isAccepted (P .step (reached P (after P w is) d js) (joinWith kind mac session) .says) ≡ true → OneJoin P → ⊥
+  joins-inside d js runs on kind mac session one own taken s = false≢true (sym (ap isAccepted (s .busy k w f is d js runs on kind mac session one own)) ∙ taken)
+
+  -- two discoveries are started in a stretch without an offer, with somebody listed throughout
+  pub discovers-often : (js : List Input) → peopled P (after P w is) js ≡ true → offers P (after P w is) js ≡ [] → discoveries P (after P w is) js ≡ 2 → Seldom P → ⊥
+  discovers-often js listed none often s = let z : ⊥ = omega (arith, often, s k w f is js listed none) in z
+
+  -- a transmission goes to another address than that of the board that its answer names
+  pub misdirected : (i : Input) (to named : ℕ) → isSending (i .event) ≡ true → isAccepted (P .step (after P w is) i .says) ≡ true → headerOf (P .step (after P w is) i .bytes) .destination ≡ to → addressed (P .step (after P w is) i .coordinator .setup) (P .step (after P w is) i .says) ≡ named → eqb to named ≡ false → OnTheWire P → ⊥
+  misdirected i to named sends taken goes tells apart s = eqb-false to named apart (sym goes ∙ s k w f is i sends taken .to ∙ tells)
+
+  -- a join that the rules allow is refused
+  pub turned-away : (kind mac session : ℕ) → Allowed (after P w is) kind mac → isAccepted (P .step (after P w is) (joinWith kind mac session) .says) ≡ false → TakesJoins P → ⊥
+  turned-away kind mac session allowed refuses s = false≢true (sym refuses ∙ ap isAccepted (s k w f is kind mac session allowed .0))
+
+-- a setup that the rules allow is refused
+pub not-started : (P : Panel) (w : World) (addresses : List ℕ) (subnet internal mac session : ℕ) → length (w .nodes) ≡ 40 → isPool addresses ≡ true → isMac mac ≡ true → isAccepted (P .start w addresses subnet internal mac session .says) ≡ false → Starts P → ⊥
+not-started P w addresses subnet internal mac session forty pool own refuses s = false≢true (sym refuses ∙ ap isAccepted (s w addresses subnet internal mac session forty pool own))

@@ -12,8 +12,9 @@ use Rattle.board.specs.Change.{oweAll}
 use Rattle.setup.specs.Setup.{arePool, address, setupFits}
 use Rattle.setup.specs.Fit.{recordFits, areApart, tableFits}
 use Rattle.nodelist.specs.List.{nodeList, sameByte, sameList}
-use Rattle.message.specs.Message.{toBoard, ownHeader, signed}
+use Rattle.message.specs.Message.{toBoard, ownHeader, signed, broadcastHeader, assignment}
 use Rattle.accept.specs.Accept.{isAck, heardAfterOffer, heardAfterList, heardAfterForward, heardAfterReturn}
+use Rattle.accept.specs.Replies.{heardInSearch, heardInIdentify, isAssignment, heardInAssign}
 use Rattle.coordinator.specs.Phase.{phaseOf, standOf}
 use Rattle.coordinator.specs.Fit.{phaseFits, holdFits, fits}
 use Rattle.steps.specs.Start.{startOf}
@@ -21,9 +22,11 @@ use Rattle.steps.specs.Join.{joinOf}
 use Rattle.steps.specs.Turn.{turnIn}
 use Rattle.steps.specs.Receive.{receiveIn}
 use Rattle.steps.specs.Quiet.{quietIn}
+use Rattle.steps.specs.Discover.{discoverOf}
 use Rattle.series.specs.Series.{after, offers, accepted, stays}
 use Rattle.series.specs.Observed.{seen}
+use Rattle.series.specs.Exchange.{goesOn, course, discoveries, peopled}
 
 unfoldable pub opened : ℕ
-unfolding choose all some count upFrom firstOr highest among sumsFrom reading frameOf bytesOf valueOf wordAt at put lowestOf highestListed indexOf someListed round nextListed oweAll arePool address setupFits recordFits areApart tableFits nodeList sameByte sameList toBoard ownHeader signed isAck heardAfterOffer heardAfterList heardAfterForward heardAfterReturn phaseOf standOf phaseFits holdFits fits startOf joinOf turnIn receiveIn quietIn after offers accepted stays seen
+unfolding choose all some count upFrom firstOr highest among sumsFrom reading frameOf bytesOf valueOf wordAt at put lowestOf highestListed indexOf someListed round nextListed oweAll arePool address setupFits recordFits areApart tableFits nodeList sameByte sameList toBoard ownHeader signed broadcastHeader assignment isAck heardAfterOffer heardAfterList heardAfterForward heardAfterReturn heardInSearch heardInIdentify isAssignment heardInAssign phaseOf standOf phaseFits holdFits fits startOf joinOf turnIn receiveIn quietIn discoverOf after offers accepted stays seen goesOn course discoveries peopled
 opened = 0

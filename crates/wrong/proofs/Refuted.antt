@@ -1,13 +1,16 @@
 -- Each wrong panel breaks a statement of demand 3. The facts about its series, each `refl`, are computed.
+use native.Mathlib.Omega.{arith}
 use mathlib.Core.Path.{refl}
 use mathlib.Core.List.{[], _∷_}
 use Rattle.steps.specs.After.{After}
 use Rattle.series.specs.Series.{Input, World, Fresh, fresh-start}
-use Rattle.series.specs.Demand.{WhoStays, NoTwoAlike, FitForEver, RoundRobin, Bounded, NeverStuck}
-use Rattle.wrong.specs.Wrong.{stepping, quietDoesNothing, quietChangesNothing, quietNeverDrops, offersOneBoard, onlyLooksBusy, waitsForEver, countsSinceJoining, restartsRound, hearsAnyone, listsTwice}
-use Rattle.wrong.specs.Trial.{before, begun, one, two, turn, quiet, missesTwice, answersBetween, anotherBetween, listed, twelveQuiets, offeredOnce, joinsAgain, firstRound, sixLists, bothJoin, twoOffers}
+use Rattle.series.specs.Demand.{WhoStays, NoTwoAlike, FitForEver, RoundRobin, Bounded, NeverStuck, Starts, TakesJoins}
+use Rattle.series.specs.Exchange.{OneJoin, Seldom}
+use Rattle.series.specs.Wire.{OnTheWire}
+use Rattle.wrong.specs.Wrong.{stepping, quietDoesNothing, quietChangesNothing, quietNeverDrops, offersOneBoard, onlyLooksBusy, waitsForEver, countsSinceJoining, restartsRound, hearsAnyone, listsTwice, joinsTwice, joinsInside, missesInAssign, discoversAgain, tellsAnother, takesNoSetup, takesNoJoin}
+use Rattle.wrong.specs.Trial.{before, begun, one, two, turn, quiet, missesTwice, answersBetween, anotherBetween, listed, eighteenQuiets, offeredOnce, joinsAgain, firstRound, nineLists, bothJoin, twoOffers, joinedOnce, listedOnce, discover, secondFound, firstFound, twoDiscoveries}
 use Rattle.wrong.proofs.Opened.{opened}
-use Rattle.wrong.proofs.Laws.{outstays, leaves-early, passed-over, starved, stuck, lingers, alike}
+use Rattle.wrong.proofs.Laws.{outstays, leaves-early, leaves-unasked, passed-over, starved, stuck, lingers, alike, joins-again, joins-inside, discovers-often, misdirected, turned-away, not-started}
 
 -- a fresh start with one address, and with two
 from-one : {step : World → Input → After} → Fresh (stepping step) 1 (begun one)
@@ -45,14 +48,14 @@ pub restarts-round-refuted : RoundRobin restartsRound → ⊥
 unfolding opened
 restarts-round-refuted = passed-over from-two bothJoin twoOffers 2 (1 ∷ 1 ∷ []) refl refl refl refl
 
--- twelve accepted steps, and no offer
+-- eighteen accepted steps, and no offer
 pub only-looks-busy-refuted : Bounded onlyLooksBusy → ⊥
 unfolding opened
-only-looks-busy-refuted = starved from-one firstRound sixLists 1 [] refl refl refl refl
+only-looks-busy-refuted = starved from-one firstRound nineLists 1 [] refl refl refl refl
 
 pub quiet-changes-nothing-refuted : Bounded quietChangesNothing → ⊥
 unfolding opened
-quiet-changes-nothing-refuted = starved from-one listed twelveQuiets 1 [] refl refl refl refl
+quiet-changes-nothing-refuted = starved from-one listed eighteenQuiets 1 [] refl refl refl refl
 
 -- the wait after the first offer does not end
 pub waits-for-ever-refuted : NeverStuck waitsForEver → ⊥
@@ -72,3 +75,37 @@ lists-twice-refuted = alike from-two joinsAgain 1 2 7 refl refl refl refl refl
 pub lists-twice-unfit : FitForEver listsTwice → ⊥
 unfolding opened
 lists-twice-unfit s = s .fit 2 (begun two) from-two joinsAgain turn refl
+
+-- a board that is found joins by its answer to the discovery, and again by its Set Address Response
+pub joins-twice-refuted : OneJoin joinsTwice → ⊥
+unfolding opened
+joins-twice-refuted = joins-again from-one [] discover secondFound (record { discovers = refl; taken = refl; on = refl }) refl
+
+-- another board joins while one is looked for
+pub joins-inside-refuted : OneJoin joinsInside → ⊥
+unfolding opened
+joins-inside-refuted = joins-inside from-one [] discover [] (record { discovers = refl; taken = refl; on = refl }) refl 5 8 1 refl refl refl
+
+-- a board with two misses that does not answer Set Address is dropped, though no message to it went unanswered
+pub misses-in-assign-refuted : WhoStays missesInAssign → ⊥
+unfolding opened
+misses-in-assign-refuted = leaves-unasked from-two firstFound quiet 1 refl refl refl
+
+-- two discoveries after one offer
+pub discovers-again-refuted : Seldom discoversAgain → ⊥
+unfolding opened
+discovers-again-refuted = discovers-often from-two joinedOnce twoDiscoveries refl refl refl
+
+-- the offer to the first board, at address 2, names the second position, which has address 5
+pub tells-another-refuted : OnTheWire tellsAnother → ⊥
+unfolding opened
+tells-another-refuted = misdirected from-two listedOnce turn 2 5 refl refl refl refl refl
+
+-- nothing ever happens
+pub takes-no-setup-refuted : Starts takesNoSetup → ⊥
+unfolding opened
+takes-no-setup-refuted = not-started takesNoSetup before one 3 1 9 4 refl refl refl refl
+
+pub takes-no-join-refuted : TakesJoins takesNoJoin → ⊥
+unfolding opened
+takes-no-join-refuted = turned-away from-one [] 2 7 1 (record { kindFits = refl; macFits = refl; rest = refl; nothingOwed = refl; notHeld = refl; place = omega arith }) refl

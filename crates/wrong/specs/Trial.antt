@@ -2,7 +2,7 @@
 use Prim.Native.Nat.{ℕ}
 use mathlib.Core.List.{List, [], _∷_, _++_}
 use Rattle.coordinator.specs.Fresh.{fresh, blankTable}
-use Rattle.steps.specs.declared.Event.the-variants.{Join, Frame}
+use Rattle.steps.specs.declared.Event.the-variants.{Join, Frame, Discover}
 use Rattle.steps.specs.Start.{setupOf}
 use Rattle.series.specs.Series.{Input, World, left}
 use Rattle.series.specs.Demand.{turnWith, quietWith}
@@ -64,28 +64,40 @@ answersBetween = missesTwice ++ ack ∷ turn ∷ []
 abbrev pub anotherBetween : List Input
 anotherBetween = missesTwice ++ request ∷ turn ∷ []
 
--- it has its list, and twelve times there is quiet
+-- it has its list, and eighteen times there is quiet
 abbrev pub listed : List Input
 listed = first ∷ turn ∷ []
 
-abbrev pub twelveQuiets : List Input
-twelveQuiets =
-    quiet ∷ quiet ∷ quiet ∷ quiet ∷ quiet ∷ quiet ∷ quiet ∷ quiet ∷ quiet ∷ quiet ∷ quiet ∷ quiet ∷ []
+abbrev sixQuiets : List Input
+sixQuiets = quiet ∷ quiet ∷ quiet ∷ quiet ∷ quiet ∷ quiet ∷ []
+
+abbrev pub eighteenQuiets : List Input
+eighteenQuiets = sixQuiets ++ sixQuiets ++ sixQuiets
 
 -- it is offered the bus, and has not answered
 abbrev pub offeredOnce : List Input
 offeredOnce = first ∷ turn ∷ quiet ∷ turn ∷ []
 
+-- it has had its list; it has had its list and an offer, and has answered neither
+abbrev pub listedOnce : List Input
+listedOnce = first ∷ turn ∷ quiet ∷ []
+
+abbrev pub joinedOnce : List Input
+joinedOnce = offeredOnce ++ quiet ∷ []
+
 -- it joins again after that
 abbrev pub joinsAgain : List Input
 joinsAgain = offeredOnce ++ quiet ∷ first ∷ []
 
--- it has had its list and an offer; six lists more
+-- it has had its list and an offer; nine lists more
 abbrev pub firstRound : List Input
 firstRound = first ∷ turn ∷ echo ∷ turn ∷ ack ∷ []
 
-abbrev pub sixLists : List Input
-sixLists = turn ∷ echo ∷ turn ∷ echo ∷ turn ∷ echo ∷ turn ∷ echo ∷ turn ∷ echo ∷ turn ∷ echo ∷ []
+abbrev threeLists : List Input
+threeLists = turn ∷ echo ∷ turn ∷ echo ∷ turn ∷ echo ∷ []
+
+abbrev pub nineLists : List Input
+nineLists = threeLists ++ threeLists ++ threeLists
 
 -- two boards; then two lists and an offer, the first board joins again, two lists and an offer
 abbrev pub bothJoin : List Input
@@ -94,3 +106,31 @@ bothJoin = first ∷ turn ∷ quiet ∷ turn ∷ ack ∷ second ∷ []
 abbrev pub twoOffers : List Input
 twoOffers =
     turn ∷ quiet ∷ turn ∷ quiet ∷ turn ∷ ack ∷ first ∷ turn ∷ quiet ∷ turn ∷ quiet ∷ turn ∷ []
+
+-- boards without an address are looked for; the second board answers, the first one does (003, Table 58); the second board takes address 2 (003, Table 60)
+abbrev pub discover : Input
+discover = record { event = Discover; received = []; room = 252 }
+
+abbrev pub secondAnswers : Input
+secondAnswers =
+    hears (255 ∷ 0 ∷ 0 ∷ 0 ∷ 0 ∷ 0 ∷ 5 ∷ 249 ∷ 0 ∷ 18 ∷ 5 ∷ 0 ∷ 8 ∷ 0 ∷ 0 ∷ 0 ∷ 0 ∷ 0 ∷ 0 ∷ 0 ∷ 1 ∷ 0 ∷ 0 ∷ 0 ∷ 0 ∷ 0 ∷ 0 ∷ 0 ∷ 97 ∷ 212 ∷ [])
+
+abbrev pub firstAnswers : Input
+firstAnswers =
+    hears (255 ∷ 0 ∷ 0 ∷ 0 ∷ 0 ∷ 0 ∷ 2 ∷ 249 ∷ 0 ∷ 18 ∷ 2 ∷ 0 ∷ 7 ∷ 0 ∷ 0 ∷ 0 ∷ 0 ∷ 0 ∷ 0 ∷ 0 ∷ 1 ∷ 0 ∷ 0 ∷ 0 ∷ 0 ∷ 0 ∷ 0 ∷ 0 ∷ 240 ∷ 76 ∷ [])
+
+abbrev pub secondTakes : Input
+secondTakes =
+    hears (255 ∷ 2 ∷ 3 ∷ 0 ∷ 0 ∷ 0 ∷ 5 ∷ 250 ∷ 0 ∷ 19 ∷ 2 ∷ 3 ∷ 8 ∷ 0 ∷ 0 ∷ 0 ∷ 0 ∷ 0 ∷ 0 ∷ 0 ∷ 1 ∷ 0 ∷ 0 ∷ 0 ∷ 0 ∷ 0 ∷ 0 ∷ 0 ∷ 1 ∷ 221 ∷ 80 ∷ [])
+
+-- the second board is found, nobody has address 2, and it takes it
+abbrev pub secondFound : List Input
+secondFound = secondAnswers ∷ turn ∷ quiet ∷ turn ∷ secondTakes ∷ []
+
+-- the first board misses twice, and answers a discovery; nobody answers at its own address, and it is given it again
+abbrev pub firstFound : List Input
+firstFound = first ∷ turn ∷ quiet ∷ turn ∷ quiet ∷ discover ∷ firstAnswers ∷ turn ∷ quiet ∷ turn ∷ []
+
+-- two discoveries that nobody answers
+abbrev pub twoDiscoveries : List Input
+twoDiscoveries = discover ∷ quiet ∷ discover ∷ []

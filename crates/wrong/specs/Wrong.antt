@@ -1,35 +1,40 @@
--- Wrong panels, each ours with one change: the errors that the rule book names (01, "Agreement between code and promise" and "Errors that look reasonable").
-use Prim.Native.Nat.{ℕ}
+-- Wrong panels, each ours with one change: the errors that the rule book names (01, "Agreement between code and promise" and "Errors that look reasonable"), and those that a discovery makes possible (02, C-11).
+use Prim.Native.Nat.{ℕ, _+_}
 use mathlib.Core.Bool.{Bool, _&&_}
 use mathlib.Core.List.{List, []}
 use lib.ListN.{getD}
 use lib.Dec.{eqb}
 use Rattle.ground.specs.Choose.{choose}
-use Rattle.refusal.specs.declared.Refusal.the-variants.{NotWaiting}
+use Rattle.refusal.specs.declared.Refusal.the-variants.{NotWaiting, BadPool, Full}
 use Rattle.frame.specs.Frame.{headerOf}
 use Rattle.board.specs.declared.Node.{Node}
 use Rattle.board.specs.declared.Wanted.the-variants.{Listed, Free}
 use Rattle.board.specs.Table.{at, put}
 use Rattle.board.specs.Wanted.{lowestOf}
-use Rattle.board.specs.Change.{oweAll}
+use Rattle.board.specs.Change.{joinedNode, oweAll}
 use Rattle.coordinator.specs.declared.Coordinator.{Coordinator}
+use Rattle.coordinator.specs.declared.Exchange.the-variants.{Offer}
+use Rattle.coordinator.specs.declared.Part.{Part}
+use Rattle.coordinator.specs.declared.Part.the-variants.{Search, Assign}
 use Rattle.coordinator.specs.declared.Phase.the-variants.{Resting}
-use Rattle.coordinator.specs.Phase.{phaseOf}
-use Rattle.coordinator.specs.Change.{withPhase}
+use Rattle.coordinator.specs.Phase.{phaseOf, stageOf}
+use Rattle.coordinator.specs.Change.{withPhase, ended}
 use Rattle.steps.specs.declared.Event.{Event}
-use Rattle.steps.specs.declared.Event.the-variants.{Join, Turn, Frame, Quiet}
-use Rattle.steps.specs.After.{After, refused, accepted, rests}
+use Rattle.steps.specs.declared.Event.the-variants.{Join, Turn, Frame, Quiet, Discover}
+use Rattle.steps.specs.After.{After, refused, accepted, waits, rests}
 use Rattle.steps.specs.Turn.{dueOffer, sent}
 use Rattle.steps.specs.Receive.{payload, takenIn}
+use Rattle.steps.specs.Quiet.{missedAt}
 use Rattle.series.specs.Series.{Input, World, Panel, isAccepted, offeredTo}
 use Rattle.series.specs.Ours.{ours}
 
--- the steps in the rule book's order (01, "The steps are join, turn, frame and quiet")
+-- the steps in the rule book's order (01, "The steps are join, turn, frame and quiet"; 02, C-11: discover)
 abbrev stepNumber : Event → ℕ
 stepNumber (Join kind mac session) = 1
 stepNumber Turn = 2
 stepNumber Frame = 3
 stepNumber Quiet = 4
+stepNumber Discover = 5
 
 -- a panel that starts as ours does
 abbrev pub stepping : (World → Input → After) → Panel
@@ -90,7 +95,16 @@ countsSinceJoining =
 
 -- as at a fresh start, nobody was offered the bus
 abbrev fromFirst : Coordinator → Coordinator
-fromFirst c = record { setup = c .setup; last = 0; held = c .held; stand = c .stand; kept = c .kept }
+fromFirst c =
+    record {
+      setup = c .setup;
+      last = 0;
+      held = c .held;
+      searched = c .searched;
+      stand = c .stand;
+      kept = c .kept;
+      found = c .found;
+    }
 
 -- "Restarting the offer round at position 1 after every list": an answer that waits in exchange 2 is a list's
 abbrev pub restartsRound : Panel
@@ -109,3 +123,53 @@ joinedAnew w a = oweAll (put (w .nodes) (lowestOf (w .nodes) Free (w .coordinato
 -- against "A listed MAC has its address again" (01, "Join"): it gets the lowest free position, as a new one does
 abbrev pub listsTwice : Panel
 listsTwice = changedAt (Join 0 0 0) (λ w i a. choose (isAccepted (a .says)) (leaving a (a .coordinator) (joinedAnew w a)) a)
+
+-- the panel is in this part of the exchange by which a board joins (02, C-11)
+abbrev isIn : Part → World → Bool
+isIn part w = eqb (w .coordinator .stand .stage) (stageOf part)
+
+-- whoever answered the discovery, put on the list at the position that is now at stake
+abbrev listedAtOnce : After → List Node
+listedAtOnce a = put (a .nodes) (a .coordinator .stand .board) (joinedNode (a .coordinator .found .kind) (a .coordinator .found .mac) (a .coordinator .found .session))
+
+-- against "exactly one join" (02, C-11): a discovery's response joins already, and the exchange goes on
+abbrev pub joinsTwice : Panel
+joinsTwice =
+    changedAt Frame (λ w i a. choose (isIn Search w && isAccepted (a .says)) (record { coordinator = a .coordinator; nodes = listedAtOnce a; says = a .says; bytes = a .bytes; joined = a .coordinator .stand .board; dropped = 0 }) a)
+
+-- against "While an exchange runs any other join gets 14" (02, C-11): a join is taken in it as at rest
+abbrev pub joinsInside : Panel
+joinsInside = changedAt (Join 0 0 0) (λ w i a. ours .step (record { coordinator = ended (w .coordinator); nodes = w .nodes }) i)
+
+-- against "quiet in it is a miss for no board" (02, C-11): in assign it is one for the board that has the position
+abbrev pub missesInAssign : Panel
+missesInAssign = changedAt Quiet (λ w i a. choose (isIn Assign w) (missedAt (w .coordinator) (w .nodes) (w .coordinator .stand .board)) a)
+
+-- no discovery was started
+abbrev forgotten : Coordinator → Coordinator
+forgotten c =
+    record {
+      setup = c .setup;
+      last = c .last;
+      held = c .held;
+      searched = 0;
+      stand = c .stand;
+      kept = c .kept;
+      found = c .found;
+    }
+
+-- against "at most once between two offers" (02, C-11): a panel that discovers again and again, since it does not remember that it did
+abbrev pub discoversAgain : Panel
+discoversAgain = changedAt Discover (λ w i a. leaving a (forgotten (a .coordinator)) (a .nodes))
+
+-- a panel that tells one board and writes to another: an offer names the next position
+abbrev pub tellsAnother : Panel
+tellsAnother =
+    changedAt Turn (λ w i a. choose (eqb (offeredTo (a .says)) 0) a (record { coordinator = a .coordinator; nodes = a .nodes; says = waits (offeredTo (a .says) + 1) Offer; bytes = a .bytes; joined = a .joined; dropped = a .dropped }))
+
+-- panels to which nothing ever happens: one that takes no setup, and one that takes no join
+abbrev pub takesNoSetup : Panel
+takesNoSetup = record { start = λ w addresses subnet internal mac session. refused (w .coordinator) (w .nodes) BadPool; step = ours .step }
+
+abbrev pub takesNoJoin : Panel
+takesNoJoin = changedAt (Join 0 0 0) (λ w i a. refused (w .coordinator) (w .nodes) Full)

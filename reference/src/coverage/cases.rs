@@ -1,5 +1,6 @@
 //! The names under which a line and its answer are counted.
 
+use super::discoveries;
 use super::required::named;
 use crate::frame;
 use crate::line::{Kind, Line};
@@ -14,6 +15,7 @@ pub fn head(answer: &str) -> String {
         ["wait", _, kind, "0"] => format!("wait {kind} 0"),
         ["wait", _, kind, ..] => format!("wait {kind}"),
         ["rest", what, _] => format!("rest {what}"),
+        ["transmit", _, _, "joined", _] => "transmit joined".to_string(),
         ["refuse", number] => format!("refuse {number}"),
         ["bad", ..] => "bad line".to_string(),
         [first, ..] => first.to_string(),
@@ -21,12 +23,12 @@ pub fn head(answer: &str) -> String {
     }
 }
 
-fn step(line: &str) -> &str {
+pub fn step(line: &str) -> &str {
     line.split(' ').next().unwrap_or("")
 }
 
 pub fn is_step(line: &str) -> bool {
-    ["join", "turn", "frame", "quiet"].contains(&step(line))
+    ["join", "discover", "turn", "frame", "quiet"].contains(&step(line))
 }
 
 /// The step with its answer, and in which of its cases.
@@ -37,13 +39,13 @@ pub fn case(before: &Panel, line: &str, head: &str, after: &Panel) -> String {
     let detail = match (step(line), head) {
         ("setup", "ready") => pool(after),
         ("join", "rest joined") => joined_how(before, line).to_string(),
-        ("join", "refuse 14") => busy_with(before),
-        ("join", "refuse 16") => pool(before),
+        ("join" | "discover", "refuse 14") => busy_with(before),
+        ("join" | "discover", "refuse 16") => pool(before),
         ("turn", "refuse 11") => due(before).to_string(),
         ("frame", "refuse 6") if waiting(before).is_none() => "no wait".to_string(),
         ("frame", "refuse 6") => "another source".to_string(),
         ("frame", "refuse 7") => waiting(before).unwrap_or("").to_string(),
-        ("frame", "transmit" | "rest") => accepted_how(before, line, after),
+        ("frame", "transmit" | "transmit joined" | "rest") => accepted_how(before, line, after),
         ("quiet", "rest" | "rest dropped") => quiet_how(before),
         (word, _) => return format!("{word}: {head}"),
     };
@@ -64,6 +66,9 @@ pub fn further(before: &Panel, line: &str, answer: &str, after: &Panel) -> Vec<S
         ("join", "rest joined") if gap_filled(before, after) => {
             cases.push("a position freed was taken again".to_string());
         }
+        ("frame", "transmit joined") if gap_filled(before, after) => {
+            cases.push("a position freed was taken again, by discovery".to_string());
+        }
         _ => (),
     }
     if to_the_byte(line, answer) {
@@ -75,6 +80,7 @@ pub fn further(before: &Panel, line: &str, answer: &str, after: &Panel) -> Vec<S
     if session_changed(before, line, after) {
         cases.push(format!("frame: session changed ({wait})"));
     }
+    cases.extend(discoveries::path(before, line, &head, after));
     cases
 }
 
@@ -83,6 +89,7 @@ pub fn disturbance(before: &Panel, line: &Line, head: &str) -> String {
     let wait = waiting(before).unwrap_or("no wait");
     let place = match (line.kind, step(&line.text)) {
         (Kind::Late, _) => late_where(before, &line.text).to_string(),
+        (Kind::OneShort | Kind::Narrow, "discover") => "discover".to_string(),
         (Kind::OneShort | Kind::Narrow, "turn") => format!("turn, {}", due(before)),
         (Kind::OneShort | Kind::Narrow, _) => format!("frame, {wait}"),
         _ => wait.to_string(),
@@ -94,7 +101,7 @@ fn pool(panel: &Panel) -> String {
     format!("k {}", panel.coordinator.pool.len())
 }
 
-fn waiting(panel: &Panel) -> Option<&'static str> {
+pub fn waiting(panel: &Panel) -> Option<&'static str> {
     panel.coordinator.phase.awaited().map(|(_, exchange)| exchange.name())
 }
 
@@ -120,10 +127,12 @@ fn busy_with(before: &Panel) -> String {
 }
 
 /// The kind of transmission the next turn would make.
-fn due(before: &Panel) -> &'static str {
+pub fn due(before: &Panel) -> &'static str {
     match &before.coordinator.phase {
         Phase::ReturnDue { .. } => "return",
         Phase::ForwardDue { .. } => "forward",
+        Phase::IdentifyDue { .. } => "identify",
+        Phase::AssignDue { .. } => "assign",
         _ if before.records.iter().any(|record| record.owed) => "list",
         _ => "offer",
     }
@@ -142,7 +151,7 @@ fn accepted_how(before: &Panel, line: &str, after: &Panel) -> String {
 }
 
 /// The bytes of a `frame` line.
-fn bytes_of(line: &str) -> Vec<u8> {
+pub fn bytes_of(line: &str) -> Vec<u8> {
     line.split(' ').nth(2).and_then(script::pairs).unwrap_or_default()
 }
 
@@ -158,6 +167,7 @@ fn quiet_how(before: &Panel) -> String {
         Phase::Waiting { exchange: Exchange::Forward { acked: true, .. }, .. } => {
             "forward, ACK had come".to_string()
         }
+        Phase::Waiting { exchange, .. } if exchange.discovers() => exchange.name().to_string(),
         _ => format!("{}, a miss", waiting(before).unwrap_or("")),
     }
 }
@@ -173,13 +183,13 @@ fn late_where(before: &Panel, line: &str) -> &'static str {
     }
 }
 
-/// Whether the bytes written fill the room lent, which `turn` and `frame` have
-/// as their second word and the answer as its second or fourth.
+/// Whether the bytes written fill the room lent, which `discover`, `turn` and
+/// `frame` have as their second word and the answer as its second or fourth.
 fn to_the_byte(line: &str, answer: &str) -> bool {
     let words: Vec<&str> = answer.split(' ').collect();
     let written = match words[..] {
         ["wait", _, _, count, _] => count,
-        ["deliver" | "transmit", count, _] => count,
+        ["deliver" | "transmit", count, _] | ["transmit", count, _, "joined", _] => count,
         _ => return false,
     };
     line.split(' ').nth(1) == Some(written)
@@ -195,7 +205,9 @@ fn zero_taken(line: &str, head: &str) -> bool {
 fn session_changed(before: &Panel, line: &str, after: &Panel) -> bool {
     let changed =
         |(board, _): (usize, Exchange)| before.record(board).session != after.record(board).session;
-    step(line) == "frame" && before.coordinator.phase.awaited().map_or(false, changed)
+    let awaited = before.coordinator.phase.awaited();
+    let awaited = awaited.filter(|(_, exchange)| !exchange.discovers());
+    step(line) == "frame" && awaited.map_or(false, changed)
 }
 
 #[cfg(test)]
@@ -208,6 +220,8 @@ mod tests {
             ("wait 3 forward 0", "wait forward 0"),
             ("wait 3 offer 29 AB", "wait offer"),
             ("rest dropped 4", "rest dropped"),
+            ("transmit 29 AB", "transmit"),
+            ("transmit 29 AB joined 2", "transmit joined"),
             ("rest", "rest"),
             ("refuse 16", "refuse 16"),
             ("bad line 7", "bad line"),
@@ -222,6 +236,7 @@ mod tests {
     fn a_room_that_is_filled_is_seen() {
         assert!(to_the_byte("turn 29", "wait 1 offer 29 AB"));
         assert!(to_the_byte("frame 29 AB", "transmit 29 AB"));
+        assert!(to_the_byte("frame 29 AB", "transmit 29 AB joined 1"));
         assert!(!to_the_byte("turn 30", "wait 1 offer 29 AB"));
         assert!(!to_the_byte("frame 0 AB", "wait 1 forward 0"));
     }

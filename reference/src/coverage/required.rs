@@ -6,7 +6,18 @@ use crate::line::Kind;
 /// ones by turns, so that a setup has old records to clear.
 pub const POOL_SIZES: [usize; 7] = [3, 40, 1, 15, 2, 39, 8];
 
+/// The highest number that a step gives.
+pub const LAST_REFUSAL: u8 = 23;
+
 const WAITS: [&str; 4] = ["offer", "list", "forward", "return"];
+/// The waits of a discovery.
+const SEEKING: [&str; 3] = ["search", "identify", "assign"];
+/// Where a discovery can stand: its waits, identify after its ACK too, and its
+/// dues.
+const STAGES: [&str; 6] =
+    ["search", "identify due", "identify", "identify, acknowledged", "assign due", "assign"];
+const STAGE_WAITS: [&str; 4] = ["search", "identify", "identify, acknowledged", "assign"];
+const STAGE_DUES: [&str; 2] = ["identify due", "assign due"];
 /// The waits in which a board can miss for the third time.
 const DROPS: [&str; 3] = ["offer", "list", "forward"];
 
@@ -32,15 +43,20 @@ pub fn answers() -> Vec<String> {
         "wait forward",
         "wait forward 0",
         "wait return",
+        "wait search",
+        "wait identify",
+        "wait identify 0",
+        "wait assign",
         "deliver",
         "transmit",
+        "transmit joined",
         "listed",
         "bad line",
     ])
 }
 
 pub fn refusals() -> Vec<String> {
-    let numbers = (1..=22).map(|number| format!("refuse {number}"));
+    let numbers = (1..=LAST_REFUSAL).map(|number| format!("refuse {number}"));
     numbers.filter(|name| IMPOSSIBLE.iter().all(|(other, _)| other != name)).collect()
 }
 
@@ -55,7 +71,9 @@ pub fn cases() -> Vec<String> {
         cases.push(format!("frame: refuse 7 ({wait})"));
         cases.push(format!("frame: check byte 0 taken ({wait})"));
         cases.push(format!("quiet: rest ({wait}, a miss)"));
+        cases.push(format!("discover: refuse 14 (waiting, {wait})"));
     }
+    cases.extend(discoveries());
     for wait in DROPS {
         cases.push(format!("quiet: rest dropped ({wait}, a miss)"));
     }
@@ -66,13 +84,14 @@ pub fn cases() -> Vec<String> {
     for k in POOL_SIZES {
         cases.push(format!("setup: ready (k {k})"));
         cases.push(format!("join: refuse 16 (k {k})"));
+        cases.push(format!("discover: refuse 16 (k {k})"));
         cases.push(format!("turn: wait offer (k {k})"));
         cases.push(format!("quiet: rest dropped (k {k})"));
     }
     cases
 }
 
-const FIXED_CASES: [&str; 46] = [
+const FIXED_CASES: [&str; 49] = [
     "bad line",
     "passed over",
     "table: listed",
@@ -118,14 +137,133 @@ const FIXED_CASES: [&str; 46] = [
     "quiet: refuse 20",
     "quiet: refuse 22",
     "a board came back after it was dropped",
+    "a dropped board was discovered",
+    "a position freed was taken again, by discovery",
+    "frame: transmit joined, room to the byte",
     "a position freed was taken again",
+];
+
+/// Every path through a discovery, every way it breaks off, and every refusal
+/// in it.
+fn discoveries() -> Vec<String> {
+    let mut cases = texts(&PATHS);
+    for stage in STAGES {
+        for (step, number) in [("join", 12), ("join", 14), ("discover", 14)] {
+            cases.push(format!("{step} in {stage}: refuse {number}"));
+        }
+        cases.push(format!("setup in {stage}: ready"));
+    }
+    for stage in STAGE_WAITS {
+        cases.push(format!("turn in {stage}: refuse 18"));
+        cases.extend((1..=6).map(|number| format!("frame in {stage}: refuse {number}")));
+        cases.push(format!("frame in {stage} (another type): refuse 7"));
+        cases.push(format!("frame in {stage} (another response): refuse 7"));
+    }
+    for stage in STAGE_DUES {
+        cases.push(format!("join in {stage}: refuse 13"));
+        cases.push(format!("turn in {stage}: refuse 11"));
+        cases.push(format!("frame in {stage}: refuse 6"));
+        cases.push(format!("quiet in {stage}: refuse 20"));
+    }
+    for stage in ["identify", "identify, acknowledged"] {
+        cases.extend(ANSWERS.iter().map(|how| format!("frame in {stage} {how}")));
+    }
+    for wait in SEEKING {
+        cases.push(format!("frame: check byte 0 taken ({wait})"));
+    }
+    for response in ["0xF9", "0xFA", "0xFB"] {
+        cases.extend(OUTSIDE.iter().map(|place| format!("{response} {place}")));
+    }
+    cases
+}
+
+/// What can become of a Get Node ID Response, with or without an ACK before it.
+const ANSWERS: [&str; 13] = [
+    "(it is new): transmit joined",
+    "(it came back): transmit joined",
+    "(type 0): transmit",
+    "(type 165): transmit",
+    "(a bad type, but its misses are cleared): transmit",
+    "(MAC 0): transmit",
+    "(too high a MAC): transmit",
+    "(listed at another position): transmit",
+    "(listed at another position, the misses stay): transmit",
+    "(new where another is listed): transmit",
+    "(new where another is listed, whose misses stay): transmit",
+    "(another length): refuse 7",
+    "(no ACK by its form): refuse 7",
+];
+
+/// A response of the exchange where none runs.
+const OUTSIDE: [&str; 10] = [
+    "at rest: refuse 23",
+    "while a list is due: refuse 23",
+    "while a forward is due: refuse 23",
+    "while a return is due: refuse 23",
+    "in offer: refuse 23",
+    "in list: refuse 23",
+    "in return: refuse 23",
+    "in the forward of another request: refuse 23",
+    "in the forward of its request: transmit",
+    "in the forward of its request: refuse 6",
+];
+
+const PATHS: [&str; 48] = [
+    "discover at rest: wait search",
+    "discover at rest, nobody listed: wait search",
+    "discover again, nobody listed: wait search",
+    "discover at rest: refuse 11",
+    "discover at rest, nobody listed: refuse 11",
+    "discover at rest: refuse 16",
+    "discover while held: refuse 15",
+    "discover again: refuse 15",
+    "discover while busy: refuse 14",
+    "discover: refuse 14 (list due)",
+    "discover: refuse 14 (forward due)",
+    "discover: refuse 14 (return due)",
+    "discover: refuse 22",
+    "discover: wait search, room to the byte",
+    "frame in search (a new MAC): rest",
+    "frame in search (a listed MAC): rest",
+    "frame in search (type 0): rest",
+    "frame in search (type 165): rest",
+    "frame in search (MAC 0): rest",
+    "frame in search (too high a MAC): rest",
+    "frame in search (another length): refuse 7",
+    "quiet in search: rest",
+    "turn in identify due: wait identify",
+    "turn in identify due (nobody listed): wait identify",
+    "turn: wait identify, room to the byte",
+    "frame in identify (a free address): wait identify 0",
+    "frame in identify (the listed board): wait identify 0",
+    "frame in identify (the listed board, its misses are cleared): wait identify 0",
+    "frame in identify (another MAC): wait identify 0",
+    "frame in identify (another MAC, the misses stay): wait identify 0",
+    "frame in identify, acknowledged (a second ACK): refuse 7",
+    "frame in identify: refuse 11",
+    "frame in identify, acknowledged: refuse 11",
+    "frame in identify: taken when there was room",
+    "quiet in identify (a free address): rest",
+    "quiet in identify (its board has missed twice): rest",
+    "quiet in identify, acknowledged (a free address): rest",
+    "quiet in identify, acknowledged (a listed board's address): rest",
+    "turn in assign due: wait assign",
+    "turn in assign due (nobody listed): wait assign",
+    "turn: wait assign, room to the byte",
+    "frame in assign (it is new): transmit joined",
+    "frame in assign (it came back): transmit joined",
+    "frame in assign: refuse 8",
+    "frame in assign: refuse 11",
+    "frame in assign: taken when there was room",
+    "quiet in assign (a free address): rest",
+    "quiet in assign (its board has missed twice): rest",
 ];
 
 /// Each disturbance where it can be, as it has to be answered there.
 pub fn disturbances() -> Vec<String> {
     let mut names = Vec::new();
     for (kind, answers) in IN_EVERY_WAIT {
-        for wait in WAITS {
+        for wait in WAITS.into_iter().chain(SEEKING) {
             names.extend(answers.iter().map(|answer| named(*kind, wait, answer)));
         }
     }
@@ -167,6 +305,35 @@ const SINGLE: &[(Kind, &str, &str)] = &[
     (Kind::Late, "the wait for another", "refuse 6"),
     (Kind::Late, "a later wait for it", "refuse 7"),
     (Kind::Late, "a later wait for it", "rest"),
+    (Kind::Answers, "search", "rest"),
+    (Kind::Answers, "identify", "wait identify 0"),
+    (Kind::Answers, "identify", "transmit"),
+    (Kind::Answers, "identify", "transmit joined"),
+    (Kind::Answers, "assign", "transmit joined"),
+    (Kind::NewMac, "identify", "wait identify 0"),
+    (Kind::OtherLength, "search", "refuse 7"),
+    (Kind::OtherLength, "identify", "refuse 7"),
+    (Kind::OtherLength, "assign", "refuse 8"),
+    (Kind::OtherEcho, "assign", "refuse 8"),
+    (Kind::Misplaced, "no wait", "refuse 23"),
+    (Kind::Misplaced, "offer", "refuse 23"),
+    (Kind::Misplaced, "list", "refuse 23"),
+    (Kind::Misplaced, "forward", "refuse 23"),
+    (Kind::Misplaced, "return", "refuse 23"),
+    (Kind::Misplaced, "search", "refuse 6"),
+    (Kind::Misplaced, "search", "refuse 7"),
+    (Kind::Misplaced, "identify", "refuse 6"),
+    (Kind::Misplaced, "identify", "refuse 7"),
+    (Kind::Misplaced, "assign", "refuse 6"),
+    (Kind::Misplaced, "assign", "refuse 7"),
+    (Kind::OneShort, "discover", "refuse 11"),
+    (Kind::OneShort, "turn, identify", "refuse 11"),
+    (Kind::OneShort, "turn, assign", "refuse 11"),
+    (Kind::OneShort, "frame, identify", "refuse 11"),
+    (Kind::OneShort, "frame, assign", "refuse 11"),
+    (Kind::Faults, "identify", "refuse 7"),
+    (Kind::Faults, "assign", "refuse 7"),
+    (Kind::Faults, "assign", "refuse 8"),
     (Kind::NewSession, "offer", "rest"),
     (Kind::NewSession, "list", "refuse 7"),
     (Kind::NewSession, "forward", "wait forward 0"),

@@ -4,7 +4,8 @@ use super::{frame_text, Generator, Mode};
 use crate::draft::Draft;
 use crate::frame::{COORDINATOR, MAX_PAYLOAD};
 use crate::line::{Kind, Line};
-use crate::panel::{CODE_ACK, PACKET_DATAFLOW, RESPONSE, TYPE_ECHO, TYPE_R2R};
+use crate::panel::{CODE_ACK, PACKET_DATAFLOW, RESPONSE, TYPE_ECHO, TYPE_R2R, UNADDRESSED};
+use crate::panel::{TYPE_ADDRESS, TYPE_DISCOVER, TYPE_IDENTIFY};
 use crate::state::{Exchange, Phase};
 
 /// The length of an ACK's frame.
@@ -84,7 +85,7 @@ impl Generator<'_> {
         Line::new(Kind::Silent, "quiet")
     }
 
-    fn answer_line(&mut self, board: usize, exchange: Exchange) -> Line {
+    pub(super) fn answer_line(&mut self, board: usize, exchange: Exchange) -> Line {
         let bytes = self.answer(board, exchange).bytes();
         self.frame_line(Kind::Answers, &bytes)
     }
@@ -102,6 +103,12 @@ impl Generator<'_> {
             Exchange::Forward { acked: false, .. } if self.rng.chance(60) => self.own_ack(board),
             Exchange::Forward { request_type, .. } => self.response(board, request_type),
             Exchange::Return => self.own_ack(board),
+            Exchange::Search => self.discovered(),
+            Exchange::Identify { acked: false, .. } if self.rng.chance(50) => {
+                self.holder_ack(board)
+            }
+            Exchange::Identify { .. } => self.identified(board),
+            Exchange::Assign { found } => self.addressed(board, &found),
         }
     }
 
@@ -112,7 +119,7 @@ impl Generator<'_> {
         let odd = self.rng.byte();
         Draft {
             destination: COORDINATOR,
-            source: self.panel().address(board),
+            source: self.source_of(board),
             subnet: self.rng.pick(&[subnet, subnet, subnet, odd]),
             method: self.rng.pick(&[0, 0, 1, 2, 3]),
             parameter1: self.rng.byte(),
@@ -121,6 +128,15 @@ impl Generator<'_> {
             message_type,
             packet: self.rng.pick(&[0, 0, PACKET_DATAFLOW, 0x20, odd]),
             payload,
+        }
+    }
+
+    /// Where its frames come from: its address, but in a search whoever answers
+    /// has none.
+    pub(super) fn source_of(&self, board: usize) -> u8 {
+        match self.panel().coordinator.phase.awaited() {
+            Some((_, Exchange::Search)) => UNADDRESSED,
+            _ => self.panel().address(board),
         }
     }
 
@@ -143,7 +159,9 @@ impl Generator<'_> {
 
     pub(super) fn request(&mut self, board: usize) -> Draft {
         let any = self.rng.between(1, 127) as u8;
-        let message_type = self.rng.pick(&[1, 2, 3, 3, 0x14, 0x5A, 127, any, any]);
+        let discovery = self.rng.pick(&[TYPE_DISCOVER, TYPE_ADDRESS, TYPE_IDENTIFY]);
+        let types = [1, 2, 3, 3, 0x14, 0x5A, 127, any, any, discovery, discovery];
+        let message_type = self.rng.pick(&types);
         let payload = self.payload();
         let method = self.rng.pick(&[0, 1, 1, 2, 2, 3, 3]);
         let parameter1 = self.target(board, method);

@@ -28,7 +28,9 @@ fn faults_in(exchange: Exchange) -> &'static [Fault] {
         Exchange::Offer => &[Destination, Source, Type, Method, Room],
         Exchange::List => &[Destination, Source, Type, Echo, Room],
         Exchange::Forward { .. } => &[Destination, Source, Type, Room],
-        Exchange::Return => &[Destination, Source, Type],
+        Exchange::Return | Exchange::Search => &[Destination, Source, Type],
+        Exchange::Identify { .. } => &[Destination, Source, Type, Room],
+        Exchange::Assign { .. } => &[Destination, Source, Type, Echo, Room],
     }
 }
 
@@ -40,7 +42,7 @@ impl Generator<'_> {
         let mut draft = self.acknowledged(board, exchange);
         let mut room = ACK_LENGTH;
         for place in [first, second] {
-            self.lay(faults[place], &mut draft, &mut room);
+            self.lay(faults[place], board, exchange, &mut draft, &mut room);
         }
         let mut bytes = draft.bytes();
         if self.rng.chance(20) {
@@ -49,12 +51,19 @@ impl Generator<'_> {
         Line::new(Kind::Faults, frame_text(room, &bytes))
     }
 
-    fn lay(&mut self, fault: Fault, draft: &mut Draft, room: &mut usize) {
+    fn lay(
+        &mut self,
+        fault: Fault,
+        board: usize,
+        exchange: Exchange,
+        draft: &mut Draft,
+        room: &mut usize,
+    ) {
         match fault {
             Fault::Destination => draft.destination = self.not_ours(),
             Fault::Source => draft.source = draft.source.wrapping_add(1),
             Fault::Type => draft.message_type = NEVER_TAKEN,
-            Fault::Echo => draft.payload = self.other_list(),
+            Fault::Echo => draft.payload = self.other_echo(board, exchange),
             Fault::Method => draft.method = self.rng.pick(&[4, 255]),
             Fault::Room => *room = self.rng.pick(&[0, ACK_LENGTH - 1]),
         }

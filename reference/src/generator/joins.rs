@@ -4,18 +4,23 @@ use super::{Generator, Mode};
 use crate::line::{Kind, Line};
 
 /// Node types of the boards; several of a kind, so that indexes differ.
-const TYPES: [u8; 12] = [1, 2, 2, 3, 4, 5, 5, 9, 21, 12, 24, 255];
+pub(super) const TYPES: [u8; 12] = [1, 2, 2, 3, 4, 5, 5, 9, 21, 12, 24, 255];
 
 impl Generator<'_> {
     pub(super) fn idle_line(&mut self) -> Line {
         if self.list_owed() {
             return self.turn_line();
         }
+        if self.discovery_begins() {
+            let narrow = self.rng.chance(8);
+            return if narrow { self.narrow_discover() } else { self.discover_line() };
+        }
         let nobody = self.panel().listed().next().is_none();
         let percent = match self.mode {
             _ if self.panel().coordinator.held => 1,
             _ if nobody => 75,
             Mode::Calm if !self.full() => 85,
+            _ if self.free() == 1 => 3,
             _ => 2 + 24 / self.panel().coordinator.pool.len(),
         };
         if self.rng.chance(percent) {
@@ -62,12 +67,15 @@ impl Generator<'_> {
 
     /// When nothing is awaited, something that is refused.
     pub(super) fn idle_mishap(&mut self) -> Line {
-        match self.rng.below(10) {
+        match self.rng.below(15) {
             0 => Line::plain("quiet"),
             1 | 2 => self.stray_line(),
             3 => self.bad_type_join(),
             4 => self.bad_mac_join(),
             5..=7 => self.narrow_turn(),
+            8 | 9 => self.discover_line(),
+            10 => self.narrow_discover(),
+            11 | 12 => self.misplaced_line(1),
             _ => self.join_line(),
         }
     }

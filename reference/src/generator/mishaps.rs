@@ -4,12 +4,12 @@ use super::boards::ACK_LENGTH;
 use super::{frame_text, Generator};
 use crate::draft::Draft;
 use crate::line::{Kind, Line};
-use crate::panel::TYPE_ECHO;
+use crate::panel::{TYPE_ADDRESSED, TYPE_ECHO};
 use crate::state::Exchange;
 
 impl Generator<'_> {
     pub(super) fn wait_mishap(&mut self, board: usize, exchange: Exchange) -> Line {
-        match self.rng.below(27) {
+        match self.rng.below(30) {
             0 => self.cut_line(board, exchange),
             1 => self.over_long_line(board, exchange),
             2 => self.longer_line(board, exchange),
@@ -19,7 +19,7 @@ impl Generator<'_> {
             6 => self.unexpected_line(board, exchange),
             7 => self.no_ack_line(board),
             8 => self.new_mac_line(board),
-            9 => self.other_echo_line(board),
+            9 => self.other_echo_line(board, exchange),
             10 | 11 => self.bad_method_line(board),
             12 => self.narrow_line(board, exchange),
             13 => self.turn_line(),
@@ -31,12 +31,14 @@ impl Generator<'_> {
             22 => self.lone_ack_line(board),
             23 => self.zeroed_line(board, exchange),
             24 => self.bad_type_join(),
+            25 => self.discover_line(),
+            26 | 27 => self.misplaced_line(board),
             _ => self.faults_line(board, exchange),
         }
     }
 
     /// Refused by 1 or 3: the answer breaks off.
-    fn cut_line(&mut self, board: usize, exchange: Exchange) -> Line {
+    pub(super) fn cut_line(&mut self, board: usize, exchange: Exchange) -> Line {
         let bytes = self.answer(board, exchange).bytes();
         let short = self.rng.below(12);
         let keep = self.rng.pick(&[0, 11, 12, short, bytes.len() - 1, bytes.len() - 1]);
@@ -45,7 +47,7 @@ impl Generator<'_> {
     }
 
     /// Refused by 2: n above 240, with or without that many bytes.
-    fn over_long_line(&mut self, board: usize, exchange: Exchange) -> Line {
+    pub(super) fn over_long_line(&mut self, board: usize, exchange: Exchange) -> Line {
         let mut bytes = self.answer(board, exchange).bytes();
         bytes[9] = self.rng.between(241, 255) as u8;
         if self.rng.chance(30) {
@@ -55,7 +57,7 @@ impl Generator<'_> {
     }
 
     /// Refused by 3: two frames together, or bytes behind the frame.
-    fn longer_line(&mut self, board: usize, exchange: Exchange) -> Line {
+    pub(super) fn longer_line(&mut self, board: usize, exchange: Exchange) -> Line {
         let mut bytes = self.answer(board, exchange).bytes();
         if self.rng.chance(60) {
             let more = self.answer(board, exchange).bytes();
@@ -68,7 +70,7 @@ impl Generator<'_> {
     }
 
     /// Refused by 4, or by 2 or 3 if the length byte is hit.
-    fn damaged_line(&mut self, board: usize, exchange: Exchange) -> Line {
+    pub(super) fn damaged_line(&mut self, board: usize, exchange: Exchange) -> Line {
         let mut bytes = self.answer(board, exchange).bytes();
         let at = self.rng.below(bytes.len());
         bytes[at] ^= 1 << self.rng.below(8);
@@ -76,7 +78,7 @@ impl Generator<'_> {
     }
 
     /// Refused by 5: for another board, or for all.
-    fn foreign_line(&mut self, board: usize, exchange: Exchange) -> Line {
+    pub(super) fn foreign_line(&mut self, board: usize, exchange: Exchange) -> Line {
         let destination = self.not_ours();
         let bytes = Draft { destination, ..self.answer(board, exchange) }.bytes();
         self.frame_line(Kind::Foreign, &bytes)
@@ -90,7 +92,7 @@ impl Generator<'_> {
     /// Refused by 6: another board answers for the awaited one, or a stranger.
     pub(super) fn other_source(&mut self, board: usize, exchange: Exchange) -> Line {
         let other = self.any_other(board);
-        let (own, listed) = (self.panel().address(board), self.panel().address(other));
+        let (own, listed) = (self.source_of(board), self.panel().address(other));
         let any = self.rng.byte();
         let source = self.rng.pick(&[listed, listed, any, 0, 255]);
         let kind = match source {
@@ -103,7 +105,7 @@ impl Generator<'_> {
     }
 
     /// A type that is near what the wait takes.
-    fn unexpected_line(&mut self, board: usize, exchange: Exchange) -> Line {
+    pub(super) fn unexpected_line(&mut self, board: usize, exchange: Exchange) -> Line {
         let message_type = self.near_type(exchange);
         let payload = self.payload();
         let bytes = self.draft(board, message_type, payload).bytes();
@@ -116,11 +118,11 @@ impl Generator<'_> {
             Exchange::Forward { request_type, .. } => request_type.wrapping_add(127),
             _ => 128,
         };
-        self.rng.pick(&[near, 128, 129, 1, 0x14, 0x93, 0x95, 255, any])
+        self.rng.pick(&[near, 128, 129, 1, 0x14, 0x93, 0x95, 0xF8, 0xFC, 255, any])
     }
 
     /// Type 0 of another form: wrong code, too short, too long, empty.
-    fn no_ack_line(&mut self, board: usize) -> Line {
+    pub(super) fn no_ack_line(&mut self, board: usize) -> Line {
         let mut draft = self.own_ack(board);
         match self.rng.below(5) {
             0 => draft.payload[0] = self.rng.pick(&[0, 0x15, 0x07, 0xFF]),
@@ -152,23 +154,31 @@ impl Generator<'_> {
         self.frame_line(kind, &bytes)
     }
 
-    /// Refused by 8 after a list: a list that is not the one sent.
-    fn other_echo_line(&mut self, board: usize) -> Line {
-        let list = self.other_list();
-        let bytes = self.draft(board, TYPE_ECHO, list).bytes();
+    /// Refused by 8 after a list or Set Address: not what was sent.
+    pub(super) fn other_echo_line(&mut self, board: usize, exchange: Exchange) -> Line {
+        let message_type = match exchange {
+            Exchange::Assign { .. } => TYPE_ADDRESSED,
+            _ => TYPE_ECHO,
+        };
+        let echo = self.other_echo(board, exchange);
+        let bytes = self.draft(board, message_type, echo).bytes();
         self.frame_line(Kind::OtherEcho, &bytes)
     }
 
-    pub(super) fn other_list(&mut self) -> Vec<u8> {
-        let mut list = self.panel().node_list();
-        let at = self.rng.below(list.len());
-        match self.rng.below(4) {
-            0 => list.push(0),
-            1 => list.truncate(list.len() - 1),
-            2 => list[at] ^= 1,
-            _ => list.clear(),
+    /// The list or the address that was sent, but for one place.
+    pub(super) fn other_echo(&mut self, board: usize, exchange: Exchange) -> Vec<u8> {
+        let mut echo = match exchange {
+            Exchange::Assign { found } => self.address_echo(board, &found),
+            _ => self.panel().node_list(),
+        };
+        let at = self.rng.below(echo.len());
+        match self.rng.below(5) {
+            0 => echo.push(0),
+            1 => echo.truncate(echo.len() - 1),
+            2 | 3 => echo[at] ^= 1,
+            _ => echo.clear(),
         }
-        list
+        echo
     }
 
     /// Refused by 9 after an offer.
@@ -179,7 +189,7 @@ impl Generator<'_> {
     }
 
     /// Refused by 11 if an ACK is due: one byte too few, or more.
-    fn narrow_line(&mut self, board: usize, exchange: Exchange) -> Line {
+    pub(super) fn narrow_line(&mut self, board: usize, exchange: Exchange) -> Line {
         let draft = self.acknowledged(board, exchange);
         let room = self.rng.pick(&[ACK_LENGTH - 1, ACK_LENGTH - 1, 0, 12]);
         let kind = if room + 1 == ACK_LENGTH { Kind::OneShort } else { Kind::Narrow };
@@ -191,6 +201,7 @@ impl Generator<'_> {
         match exchange {
             Exchange::Offer => self.request(board),
             Exchange::Forward { request_type, .. } => self.response(board, request_type),
+            Exchange::Identify { .. } => self.identified(board),
             _ => self.answer(board, exchange),
         }
     }
@@ -202,7 +213,7 @@ impl Generator<'_> {
     }
 
     /// A good answer whose check byte is 0 for 255.
-    fn zeroed_line(&mut self, board: usize, exchange: Exchange) -> Line {
+    pub(super) fn zeroed_line(&mut self, board: usize, exchange: Exchange) -> Line {
         let bytes = self.answer(board, exchange).zeroed();
         self.frame_line(Kind::ZeroCheck, &bytes)
     }

@@ -5,7 +5,7 @@ use super::Generator;
 use crate::line::Line;
 use crate::script::hex;
 
-const BAD_LINES: [&str; 34] = [
+const BAD_LINES: [&str; 39] = [
     "turn",
     "turn 1025",
     "turn -1",
@@ -22,6 +22,11 @@ const BAD_LINES: [&str; 34] = [
     "join 5 1",
     "join 5 1 1 1",
     "join -5 1 1",
+    "discover",
+    "discover 1025",
+    "discover 64 00",
+    "discover  64",
+    "Discover 64",
     "frame",
     "frame 1025 00",
     "frame 64 0",

@@ -1,5 +1,4 @@
 -- `coordinator::fits` meets its contract: a table by value has forty records, and the calls gave the other tests.
-use Prim.Native.Nat.{ℕ}
 use mathlib.Core.Path.{_≡_}
 use lib.ListN.{length, length-map}
 use Rattle.coordinator.specs.Fit.{fits}
@@ -19,6 +18,9 @@ table-fits-requires c κs = search needs
 phase-fits-requires : tie.Need-phase-fits-requires
 phase-fits-requires c κs = search needs
 
+seek-fits-requires : tie.Need-seek-fits-requires
+seek-fits-requires c κs = search needs
+
 hold-fits-requires : tie.Need-hold-fits-requires
 hold-fits-requires c κs = search needs
 
@@ -26,8 +28,8 @@ returns : tie.Need-returns
 unfolding fits
 returns c = rw forty (cc)
   where
-    forty : length (c .before .before .before .before .before .before .before .args .table .nodes) ≡ 40
-    forty = simp length-map at (c .before .before .before .before .before .before .before .good .1 .0 .1 .1 .0 .1 .0 .1)
+    forty : length (c .before .before .before .before .before .before .before .before .before .args .table .nodes) ≡ 40
+    forty = simp length-map at (c .before .before .before .before .before .before .before .before .before .good .1 .0 .1 .1 .0 .1 .0 .1)
 
 pub fits-spec : {M : Type 1} → statement M
 fits-spec =
@@ -37,5 +39,6 @@ fits-spec =
     setup-fits-requires
     table-fits-requires
     phase-fits-requires
+    seek-fits-requires
     hold-fits-requires
     returns)

@@ -10,8 +10,11 @@ stand-of-requires c κs = search needs
 blank-kept-requires : tie.Need-blank-kept-requires
 blank-kept-requires c κs = search needs
 
+blank-found-requires : tie.Need-blank-found-requires
+blank-found-requires c κs = search needs
+
 returns : tie.Need-returns
-returns c = rw (c .before .stand-of .ensures, c .blank-kept .ensures) refl
+returns c = rw (c .before .before .stand-of .ensures, c .before .blank-kept .ensures, c .blank-found .ensures) refl
 
 pub fresh-spec : {M : Type 1} → statement M
-fresh-spec = tie.close (tie.spec stand-of-requires blank-kept-requires returns)
+fresh-spec = tie.close (tie.spec stand-of-requires blank-kept-requires blank-found-requires returns)

@@ -38,6 +38,9 @@ listed-at-requires-4 c κs = search needs
 is-response-requires : tie.Need-is-response-requires
 is-response-requires c κs = search needs
 
+enum-known-phase-4 : tie.Need-enum-known-phase-4
+enum-known-phase-4 c = search needs
+
 enum-told-2 : tie.Need-enum-told-2
 enum-told-2 c = search needs
 
@@ -59,7 +62,11 @@ returns-4 c = rw (c .before .before .before .phase3 .given .1) (cc)
 
 returns-5 : tie.Need-returns-5
 unfolding phaseFits
-returns-5 c = rw (c .enum-told2 .given .1) refl
+returns-5 c = rw (c .before .phase4 .given .1) refl
+
+returns-6 : tie.Need-returns-6
+unfolding phaseFits
+returns-6 c = rw (c .enum-told2 .given .1) refl
 
 pub phase-fits-spec : {M : Type 1} → statement M
 phase-fits-spec =
@@ -76,9 +83,11 @@ phase-fits-spec =
     enum-known-phase-3
     listed-at-requires-4
     is-response-requires
+    enum-known-phase-4
     enum-told-2
     returns
     returns-2
     returns-3
     returns-4
-    returns-5)
+    returns-5
+    returns-6)

@@ -22,6 +22,24 @@ awaiting-requires-4 c κs = search needs
 awaiting-requires-5 : tie.Need-awaiting-requires-5
 awaiting-requires-5 c κs = search needs
 
+seeking-requires : tie.Need-seeking-requires
+seeking-requires c κs = search needs
+
+seeking-requires-2 : tie.Need-seeking-requires-2
+seeking-requires-2 c κs = search needs
+
+seeking-requires-3 : tie.Need-seeking-requires-3
+seeking-requires-3 c κs = search needs
+
+seeking-requires-4 : tie.Need-seeking-requires-4
+seeking-requires-4 c κs = search needs
+
+seeking-requires-5 : tie.Need-seeking-requires-5
+seeking-requires-5 c κs = search needs
+
+seeking-requires-6 : tie.Need-seeking-requires-6
+seeking-requires-6 c κs = search needs
+
 returns : tie.Need-returns
 unfolding phaseOf choose
 returns c = rw (c .match .keys1) refl
@@ -56,7 +74,31 @@ returns-8 c = rw (c .match .keys8) refl
 
 returns-9 : tie.Need-returns-9
 unfolding phaseOf choose
-returns-9 c = search tests
+returns-9 c = rw (c .before .match .keys9) (c .seeking .ensures)
+
+returns-10 : tie.Need-returns-10
+unfolding phaseOf choose
+returns-10 c = rw (c .before .match .keys10) (c .seeking2 .ensures)
+
+returns-11 : tie.Need-returns-11
+unfolding phaseOf choose
+returns-11 c = rw (c .before .match .keys11) (c .seeking3 .ensures)
+
+returns-12 : tie.Need-returns-12
+unfolding phaseOf choose
+returns-12 c = rw (c .before .match .keys12) (c .seeking4 .ensures)
+
+returns-13 : tie.Need-returns-13
+unfolding phaseOf choose
+returns-13 c = rw (c .before .match .keys13) (c .seeking5 .ensures)
+
+returns-14 : tie.Need-returns-14
+unfolding phaseOf choose
+returns-14 c = rw (c .before .match .keys14) (c .seeking6 .ensures)
+
+returns-15 : tie.Need-returns-15
+unfolding phaseOf choose
+returns-15 c = search tests
 
 pub phase-of-spec : {M : Type 1} → statement M
 phase-of-spec =
@@ -67,6 +109,12 @@ phase-of-spec =
     awaiting-requires-3
     awaiting-requires-4
     awaiting-requires-5
+    seeking-requires
+    seeking-requires-2
+    seeking-requires-3
+    seeking-requires-4
+    seeking-requires-5
+    seeking-requires-6
     returns
     returns-2
     returns-3
@@ -75,4 +123,10 @@ phase-of-spec =
     returns-6
     returns-7
     returns-8
-    returns-9)
+    returns-9
+    returns-10
+    returns-11
+    returns-12
+    returns-13
+    returns-14
+    returns-15)

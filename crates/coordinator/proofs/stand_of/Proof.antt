@@ -52,11 +52,20 @@ enum-known-phase-3 c = search needs
 standing-requires-8 : tie.Need-standing-requires-8
 standing-requires-8 c κs = search needs
 
-enum-told-6 : tie.Need-enum-told-6
-enum-told-6 c = search needs
+enum-known-phase-4 : tie.Need-enum-known-phase-4
+enum-known-phase-4 c = search needs
+
+stage-of-requires : tie.Need-stage-of-requires
+stage-of-requires c κs = search needs
 
 standing-requires-9 : tie.Need-standing-requires-9
 standing-requires-9 c κs = search needs
+
+enum-told-6 : tie.Need-enum-told-6
+enum-told-6 c = search needs
+
+standing-requires-10 : tie.Need-standing-requires-10
+standing-requires-10 c κs = search needs
 
 returns : tie.Need-returns
 unfolding standOf
@@ -92,7 +101,11 @@ returns-8 c = rw (c .before .before .phase3 .given .1) (c .standing8 .ensures)
 
 returns-9 : tie.Need-returns-9
 unfolding standOf
-returns-9 c = rw (c .before .enum-told6 .given .1) (c .standing9 .ensures)
+returns-9 c = rw (c .before .before .before .phase4 .given .1, ← c .before .stage-of .ensures) (c .standing9 .ensures)
+
+returns-10 : tie.Need-returns-10
+unfolding standOf
+returns-10 c = rw (c .before .enum-told6 .given .1) (c .standing10 .ensures)
 
 pub stand-of-spec : {M : Type 1} → statement M
 stand-of-spec =
@@ -114,8 +127,11 @@ stand-of-spec =
     standing-requires-7
     enum-known-phase-3
     standing-requires-8
-    enum-told-6
+    enum-known-phase-4
+    stage-of-requires
     standing-requires-9
+    enum-told-6
+    standing-requires-10
     returns
     returns-2
     returns-3
@@ -124,4 +140,5 @@ stand-of-spec =
     returns-6
     returns-7
     returns-8
-    returns-9)
+    returns-9
+    returns-10)

@@ -16,6 +16,9 @@ enum-known-phase-2 c = search needs
 enum-known-phase-3 : tie.Need-enum-known-phase-3
 enum-known-phase-3 c = search needs
 
+enum-known-phase-4 : tie.Need-enum-known-phase-4
+enum-known-phase-4 c = search needs
+
 enum-told-2 : tie.Need-enum-told-2
 enum-told-2 c = search needs
 
@@ -32,7 +35,10 @@ returns-4 : tie.Need-returns-4
 returns-4 c = rw (c .before .phase3 .given .1) refl
 
 returns-5 : tie.Need-returns-5
-returns-5 c = rw (c .enum-told2 .given .1) refl
+returns-5 c = rw (c .before .phase4 .given .1) refl
+
+returns-6 : tie.Need-returns-6
+returns-6 c = rw (c .enum-told2 .given .1) refl
 
 pub is-resting-spec : {M : Type 1} → statement M
 is-resting-spec =
@@ -42,9 +48,11 @@ is-resting-spec =
     enum-known-phase
     enum-known-phase-2
     enum-known-phase-3
+    enum-known-phase-4
     enum-told-2
     returns
     returns-2
     returns-3
     returns-4
-    returns-5)
+    returns-5
+    returns-6)

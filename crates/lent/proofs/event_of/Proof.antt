@@ -18,5 +18,8 @@ returns-4 c = search tests
 returns-5 : tie.Need-returns-5
 returns-5 c = search tests
 
+returns-6 : tie.Need-returns-6
+returns-6 c = search tests depth 6
+
 pub event-of-spec : {M : Type 1} → statement M
-event-of-spec = tie.close (tie.spec returns returns-2 returns-3 returns-4 returns-5)
+event-of-spec = tie.close (tie.spec returns returns-2 returns-3 returns-4 returns-5 returns-6)

@@ -19,8 +19,8 @@ ack-session-requires c κs = search needs
 hear-ack-requires : tie.Need-hear-ack-requires
 hear-ack-requires c κs = search needs
 
-acked-requires : tie.Need-acked-requires
-acked-requires c κs = search needs
+acknowledged-requires : tie.Need-acknowledged-requires
+acknowledged-requires c κs = search needs
 
 enum-told-2 : tie.Need-enum-told-2
 enum-told-2 c = search needs
@@ -70,7 +70,7 @@ refusing-requires c κs = search needs
 returns : tie.Need-returns
 returns c =
     let args = c .before .before .before .before .before .before .before .before .args in
-    rw (c .before .before .before .enum-told .given .1) (leaves-ack (c .acked .result) (now (args .out)) (args .exchange) (args .board) (args .requester) (args .coordinator) (c .before .hear-ack .ensures ∙ ap (hearAck (args .table .nodes) (args .board)) (c .before .before .ack-session .ensures)) (c .acked .ensures))
+    rw (c .before .before .before .enum-told .given .1) (leaves-ack (c .acknowledged .result) (now (args .out)) (args .exchange) (args .board) (args .requester) (args .coordinator) (c .before .hear-ack .ensures ∙ ap (hearAck (args .table .nodes) (args .board)) (c .before .before .ack-session .ensures)) (c .acknowledged .ensures))
 
 same-length : tie.Need-same-length
 same-length c = search needs
@@ -107,7 +107,7 @@ taken-spec =
     enum-told
     ack-session-requires
     hear-ack-requires
-    acked-requires
+    acknowledged-requires
     enum-told-2
     acking-requires
     enum-told-3

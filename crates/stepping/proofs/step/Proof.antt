@@ -33,6 +33,12 @@ enum-told-3 c = search needs
 quiet-requires : tie.Need-quiet-requires
 quiet-requires c κs = search needs
 
+enum-told-4 : tie.Need-enum-told-4
+enum-told-4 c = search needs
+
+discover-requires : tie.Need-discover-requires
+discover-requires c κs = search needs
+
 returns : tie.Need-returns
 returns c =
     let args = c .before .before .before .before .before .before .args in
@@ -57,6 +63,12 @@ returns-4 c =
     rw (c .before .enum-told3 .given .1)
     (c .quiet .ensures, ap (λ (bytes : List ℕ). laid bytes (now (args .out))) (sym (quiet-silent (args .coordinator) (args .table .nodes))))
 
+same-length-3 : tie.Need-same-length-3
+same-length-3 c = search needs
+
+returns-5 : tie.Need-returns-5
+returns-5 c = rw (c .before .before .before .before .enum-told4 .given .1) (c .before .before .discover .ensures)
+
 pub step-spec : {M : Type 1} → statement M
 step-spec =
     tie.close
@@ -69,9 +81,13 @@ step-spec =
     receive-requires
     enum-told-3
     quiet-requires
+    enum-told-4
+    discover-requires
     returns
     same-length
     returns-2
     same-length-2
     returns-3
-    returns-4)
+    returns-4
+    same-length-3
+    returns-5)

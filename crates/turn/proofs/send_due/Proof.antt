@@ -1,8 +1,8 @@
 -- `turn::send_due` meets its contract, phase by phase.
-use mathlib.Core.Path.{ap}
+use mathlib.Core.Path.{sym, ap, _∙_}
 use denote.Ref.{now}
 use Rattle.coordinator.specs.declared.Phase.{Phase}
-use Rattle.steps.specs.Turn.{dueIn}
+use Rattle.steps.specs.Turn.{dueIn, isAwaiting}
 use Rattle.turn.proofs.Sending.{leaves-due, own-due}
 use borrow.Author.Needs.{needs}
 use Rattle.turn.proofs.send_due.Statement.{statement}
@@ -19,6 +19,12 @@ enum-known-phase-2 c = search needs
 
 send-forward-requires : tie.Need-send-forward-requires
 send-forward-requires c κs = search needs
+
+enum-known-phase-3 : tie.Need-enum-known-phase-3
+enum-known-phase-3 c = search needs
+
+send-seek-requires : tie.Need-send-seek-requires
+send-seek-requires c κs = ap isAwaiting (sym (c .before .before .phase3 .given .1)) ∙ c .before .before .before .before .before .pre
 
 send-own-requires : tie.Need-send-own-requires
 send-own-requires c κs = search needs
@@ -44,8 +50,16 @@ same-length-3 c = search needs
 
 returns-3 : tie.Need-returns-3
 returns-3 c =
+    let args = c .before .before .before .before .before .before .before .before .args in
+    leaves-due (args .coordinator) (args .table .nodes) (c .before .before .send-seek .result) (now (args .out)) _ (ap (λ (p : Phase). dueIn p (args .coordinator) (args .table .nodes)) (c .before .before .before .before .before .phase3 .given .1)) (c .before .before .send-seek .ensures)
+
+same-length-4 : tie.Need-same-length-4
+same-length-4 c = search needs
+
+returns-4 : tie.Need-returns-4
+returns-4 c =
     let args = c .before .before .before .before .before .before .args in
-    leaves-due (args .coordinator) (args .table .nodes) (c .before .before .send-own .result) (now (args .out)) _ (own-due (args .coordinator) (args .table .nodes) (args .phase) (c .before .before .before .before .match .keys3)) (c .before .before .send-own .ensures)
+    leaves-due (args .coordinator) (args .table .nodes) (c .before .before .send-own .result) (now (args .out)) _ (own-due (args .coordinator) (args .table .nodes) (args .phase) (c .before .before .before .before .match .keys4)) (c .before .before .send-own .ensures)
 
 pub send-due-spec : {M : Type 1} → statement M
 send-due-spec =
@@ -55,10 +69,14 @@ send-due-spec =
     send-return-requires
     enum-known-phase-2
     send-forward-requires
+    enum-known-phase-3
+    send-seek-requires
     send-own-requires
     same-length
     returns
     same-length-2
     returns-2
     same-length-3
-    returns-3)
+    returns-3
+    same-length-4
+    returns-4)

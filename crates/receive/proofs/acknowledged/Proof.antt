@@ -1,10 +1,10 @@
--- `receive::acked` meets its contract: only a forward's wait goes on.
+-- `receive::acknowledged` meets its contract: only a forward's wait goes on.
 use mathlib.Core.Path.{refl, sym, ap, _∙_}
 use Rattle.steps.specs.After.{shows}
 use Rattle.receive.proofs.Leaving.{acked-ends}
 use borrow.Author.Needs.{needs}
-use Rattle.receive.proofs.acked.Statement.{statement}
-use Rattle.receive.proofs.acked.Tie as tie
+use Rattle.receive.proofs.acknowledged.Statement.{statement}
+use Rattle.receive.proofs.acknowledged.Tie as tie
 
 enum-told : tie.Need-enum-told
 enum-told c = search needs
@@ -29,8 +29,8 @@ returns-2 c =
     let args = c .before .before .before .args in
     rw (c .before .with-phase2 .ensures) at (c .resting .ensures) ∙ sym (ap shows (acked-ends (args .exchange) (args .board) (args .requester) (args .coordinator) (args .table .nodes) (c .before .before .match .keys2)))
 
-pub acked-spec : {M : Type 1} → statement M
-acked-spec =
+pub acknowledged-spec : {M : Type 1} → statement M
+acknowledged-spec =
     tie.close
     (tie.spec
     enum-told

@@ -1,0 +1,17 @@
+-- `coordinator::searching` meets its contract: what the calls gave.
+use mathlib.Core.Path.{refl}
+use borrow.Author.Needs.{needs}
+use Rattle.coordinator.proofs.searching.Statement.{statement}
+use Rattle.coordinator.proofs.searching.Tie as tie
+
+seeking-requires : tie.Need-seeking-requires
+seeking-requires c κs = search needs
+
+stand-of-requires : tie.Need-stand-of-requires
+stand-of-requires c κs = search needs
+
+returns : tie.Need-returns
+returns c = rw (c .stand-of .ensures, c .before .seeking .ensures) refl
+
+pub searching-spec : {M : Type 1} → statement M
+searching-spec = tie.close (tie.spec seeking-requires stand-of-requires returns)

@@ -1,0 +1,10 @@
+pub mod Taken
+pub mod NotEmpty
+pub mod Memory
+pub mod Seldom
+pub mod Wire
+pub mod Course
+pub mod Going
+pub mod Rest
+pub mod Alone
+pub mod OneJoin

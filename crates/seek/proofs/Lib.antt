@@ -1,0 +1,4 @@
+pub mod Discovery
+pub mod Answers
+pub mod Settling
+pub mod Unique

@@ -1,0 +1,21 @@
+-- `seek::discovered` meets its contract: what the calls gave.
+use mathlib.Core.Path.{refl}
+use borrow.Author.Needs.{needs}
+use Rattle.seek.proofs.discovered.Statement.{statement}
+use Rattle.seek.proofs.discovered.Tie as tie
+
+first-byte-requires : tie.Need-first-byte-requires
+first-byte-requires c κs = search needs
+
+word-at-requires : tie.Need-word-at-requires
+word-at-requires c κs = search needs
+
+word-at-requires-2 : tie.Need-word-at-requires-2
+word-at-requires-2 c κs = search needs
+
+returns : tie.Need-returns
+returns c = rw (c .before .before .first-byte .ensures, c .before .word-at .ensures, c .word-at2 .ensures) refl
+
+pub discovered-spec : {M : Type 1} → statement M
+discovered-spec =
+    tie.close (tie.spec first-byte-requires word-at-requires word-at-requires-2 returns)

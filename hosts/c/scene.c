@@ -1,0 +1,57 @@
+#include "scene.h"
+
+#include "board.h"
+
+#define COUNT(table) (sizeof(table) / sizeof *(table))
+
+/* control command codes: send parameter 1 by method 1, and the first two bytes of the payload */
+enum { HEAT = 100, COOL = 101 };
+
+/* a node type that no board here has */
+enum { HEAT_PUMP = 5 };
+
+static const struct request requests[] = {
+    {AIR_HANDLER, 2, TYPE_DISPLAY, 0, 0, 15, "\x03\x0D" "CHANGE FILTER"}, /* for the panel's screen */
+    {THERMOSTAT, 4, TYPE_CONTROL, 1, HEAT, 4, {HEAT, 0, 70, 0}},          /* by priority: to the furnace */
+    {THERMOSTAT, 6, TYPE_CONTROL, 2, HEAT_PUMP, 4, {HEAT, 0, 50, 0}},     /* by type: there is none */
+    {THERMOSTAT, 7, TYPE_CONTROL, 1, HEAT, 4, {HEAT, 0, 60, 0}},          /* no response comes */
+    {THERMOSTAT, 12, TYPE_CONTROL, 1, COOL, 4, {COOL, 0, 24, 0}},         /* to the air conditioner */
+    {THERMOSTAT, 18, TYPE_CONTROL, 1, HEAT, 4, {HEAT, 0, 80, 0}},         /* the furnace is back */
+};
+
+/* The air conditioner leaves its first Set Address unanswered; the crossover gives no ID when it is asked for it. */
+static const struct {
+    uint8_t kind;
+    unsigned message;
+    enum lapse lapse;
+} lapses[] = {
+    {AIR_CONDITIONER, 1, MISSES}, {CROSSOVER, 1, NO_RESPONSE},   {FURNACE, 5, MISSES},
+    {FURNACE, 11, NO_RESPONSE},   {FURNACE, 13, MISSES},         {FURNACE, 14, MISSES},
+    {THERMOSTAT, 7, NOISE},       {THERMOSTAT, 10, TALKED_OVER}, {AIR_HANDLER, 5, DAMAGED},
+    {AIR_HANDLER, 8, LATE_ID},
+};
+
+/* One board after the other is switched on, two of them with addresses that the panel believes free. The furnace loses
+   its power for a moment, and later for so long that it is dropped. */
+static const struct outage outages[] = {
+    {THERMOSTAT, 1, 2, 0},  {FURNACE, 1, 7, 0},   {AIR_CONDITIONER, 1, 13, 0}, {AIR_HANDLER, 1, 13, 18},
+    {CROSSOVER, 1, 16, 19}, {FURNACE, 60, 61, 0}, {FURNACE, 89, 109, 0},
+};
+
+const struct request *scene_request(uint8_t kind, unsigned offer) {
+    for (size_t i = 0; i < COUNT(requests); i++)
+        if (requests[i].kind == kind && requests[i].offer == offer) return &requests[i];
+    return NULL;
+}
+
+enum lapse scene_lapse(uint8_t kind, unsigned message) {
+    for (size_t i = 0; i < COUNT(lapses); i++)
+        if (lapses[i].kind == kind && lapses[i].message == message) return lapses[i].lapse;
+    return NONE;
+}
+
+const struct outage *scene_outage(uint8_t kind, unsigned message) {
+    for (size_t i = 0; i < COUNT(outages); i++)
+        if (outages[i].kind == kind && outages[i].off <= message && message <= outages[i].on) return &outages[i];
+    return NULL;
+}

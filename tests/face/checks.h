@@ -1,0 +1,70 @@
+/*
+ * Calls with odd inputs, in checks: what is lent to them, whether they left it as it was, and the line that each check
+ * prints. Records that were lent are compared field by field, and all else byte by byte.
+ */
+#ifndef CHECKS_H
+#define CHECKS_H
+
+#include "records.h"
+
+/* more records than are ever lent */
+enum { RECORDS = 320 };
+
+/* All that the calls may change. */
+struct lent {
+    struct nadrelgos_coordinator coordinator;
+    struct nadrelgos_node nodes[RECORDS];
+    uint8_t out[NADRELGOS_ROOM];
+};
+
+/* What is lent, as it was when it was last kept, and the bytes that a frame is given. */
+extern struct lent lent, before;
+extern uint8_t received[NADRELGOS_ROOM];
+
+/* ---- a check: it begins, holds its calls, ends with its line */
+
+void begin(const char *name);
+void hold(bool held, uint64_t answer);
+void end(void);
+
+/* Whether a call of any check was wrong. */
+bool some_failed(void);
+
+/* ---- numbers without an order, the same each time */
+
+uint64_t draw(void);
+void scatter(void *bytes, size_t count);
+
+/* ---- what a call changed */
+
+void keep(void);
+
+/* Whether the records past the `count` that were lent have each byte that they had. */
+bool past_untouched(size_t count);
+
+/* Whether out has, too. */
+bool others_untouched(size_t count);
+
+/* Whether everything is as it was. */
+bool unchanged(size_t count);
+
+void hold_refused(uint64_t answer, uint64_t refusal, size_t count);
+
+/* ---- records that are fit: five addresses, boards at positions 1 to 3; all that is not lent is scattered */
+
+enum { OWN_MAC = 9, OWN_SESSION = 8, SUBNET = 3, INTERNAL = 21, BOARDS = 3, FREE = 4, K = 5 };
+
+/* The stages: 0 to 7, then those of the exchange by which a board joins. */
+enum { SEARCH = 8, IDENTIFY_DUE = 9, IDENTIFY = 10, PRESENT = 11, ASSIGN_DUE = 12, ASSIGN = 13, STAGES = 14 };
+
+extern const uint8_t pool[K];
+
+uint64_t set_up(size_t count);
+
+/*
+ * Fit records in a stage: board 1, or the free position at stake; where another board is named, requester 2. A message
+ * is kept, and a board found, as the stage needs it.
+ */
+void make_fit(uint8_t stage);
+
+#endif
