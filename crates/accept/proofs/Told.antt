@@ -8,8 +8,7 @@ use borrow.Author.Tests.{ne-eqb}
 use Rattle.ground.specs.Choose.{choose}
 use Rattle.refusal.specs.Refusal.{Told, numberOf, refuses}
 use Rattle.refusal.specs.declared.Refusal.{Refusal}
-use Rattle.refusal.specs.declared.Refusal.the-variants.{Short}
-use Rattle.refusal.proofs.Numbers.{listed, placed, not-zero}
+use Rattle.refusal.proofs.Numbers.{refusalOf, placed, not-zero}
 use Rattle.accept.specs.declared.Heard.{Heard}
 use Rattle.accept.specs.declared.Heard.the-variants.{Ack, Echo, Deliver, Route, Answer, Refused}
 use Rattle.accept.specs.Accept.{toldHeard}
@@ -19,7 +18,7 @@ use Rattle.accept.specs.Replies.{toldReply}
 
 -- the case that says this, of those that are taken in the order of their values, and those that refuse
 saying : {A : Type 0} → A → List A → (Refusal → A) → Told → A
-saying none taken refusing t = choose (eqb (t .number) 0) (getD taken (getD (t .values) 0 0 - 1) none) (refusing (getD listed (t .number - 1) Short))
+saying none taken refusing t = choose (eqb (t .number) 0) (getD taken (getD (t .values) 0 0 - 1) none) (refusing (refusalOf (t .number)))
 
 -- a refusal says which
 said-refused : {A : Type 0} (none : A) (taken : List A) (refusing : Refusal → A) (q : Refusal) → saying none taken refusing (refuses q) ≡ refusing q

@@ -12,7 +12,8 @@ use Rattle.ground.specs.Bytes.{laid}
 use Rattle.ground.proofs.Choices.{choose-no}
 use Rattle.refusal.specs.Refusal.{Told, numberOf}
 use Rattle.refusal.specs.declared.Refusal.{Refusal}
-use Rattle.refusal.specs.declared.Refusal.the-variants.{Short, OverLong, LengthMismatch, BadChecksum, NotForUs, NotAwaited, UnexpectedType, BadEcho, BadMethod, PayloadTooLong, NoRoom, BadType, BadMac, Busy, Held, Full, AddressClash, AwaitingReply, NobodyListed, NotWaiting, BadPool, StateUnfit, NotDiscovering}
+use Rattle.refusal.specs.declared.Refusal.the-variants.{BadType, StateUnfit}
+use Rattle.refusal.proofs.Numbers.{number-byte}
 use Rattle.word.specs.Words.{bytesOf}
 use Rattle.word.proofs.Words.{Bytes, bytes-of-value}
 use Rattle.board.specs.declared.Node.{Node}
@@ -44,32 +45,7 @@ step-faced r c k ys zs e f b os us n ef h p = (
   h .1 ∙ ap (λ (v : Event). laid (stepOf c ys v b (length os) .bytes) os) ef,
 )
 
--- the number of a refusal, that of an exchange and that of a wait in the exchange by which a board joins are bytes
-
-number-byte : (r : Refusal) → numberOf r < 256
-number-byte Short = omega arith
-number-byte OverLong = omega arith
-number-byte LengthMismatch = omega arith
-number-byte BadChecksum = omega arith
-number-byte NotForUs = omega arith
-number-byte NotAwaited = omega arith
-number-byte UnexpectedType = omega arith
-number-byte BadEcho = omega arith
-number-byte BadMethod = omega arith
-number-byte PayloadTooLong = omega arith
-number-byte NoRoom = omega arith
-number-byte BadType = omega arith
-number-byte BadMac = omega arith
-number-byte Busy = omega arith
-number-byte Held = omega arith
-number-byte Full = omega arith
-number-byte AddressClash = omega arith
-number-byte AwaitingReply = omega arith
-number-byte NobodyListed = omega arith
-number-byte NotWaiting = omega arith
-number-byte BadPool = omega arith
-number-byte StateUnfit = omega arith
-number-byte NotDiscovering = omega arith
+-- the number of an exchange and that of a wait in the exchange by which a board joins are bytes
 
 exchange-byte : (e : Exchange) → exchangeNumber e < 256
 exchange-byte Offer = omega arith

@@ -1,21 +1,28 @@
--- The numbers tell the refusals apart.
-use Prim.Native.Nat.{ℕ, _-_}
+-- The numbers tell the refusals apart. Which refusals there are is gone through once, in `placed`; the other laws follow from it.
+use Prim.Native.Nat.{ℕ, _-_, _≤_, _<_}
 use mathlib.Core.Path.{_≡_, refl, sym, ap, _∙_}
+use mathlib.Core.Bool.{Bool, true, false}
 use mathlib.Core.List.{List, [], _∷_}
-use lib.ListN.{getD}
+use lib.Dec.{ltb}
+use lib.ListN.{getD, List·getD-eq-default}
+use borrow.Author.Tests.{ltb-true, ltb-false}
 use native.Mathlib.Omega.{arith}
 use Rattle.refusal.specs.Refusal.{numberOf, refuses, Told}
 use Rattle.refusal.specs.declared.Refusal.{Refusal}
 use Rattle.refusal.specs.declared.Refusal.the-variants.{Short, OverLong, LengthMismatch, BadChecksum, NotForUs, NotAwaited, UnexpectedType, BadEcho, BadMethod, PayloadTooLong, NoRoom, BadType, BadMac, Busy, Held, Full, AddressClash, AwaitingReply, NobodyListed, NotWaiting, BadPool, StateUnfit, NotDiscovering}
 
 -- the refusals in the order of their numbers
-pub listed : List Refusal
+listed : List Refusal
 listed =
     Short ∷ OverLong ∷ LengthMismatch ∷ BadChecksum ∷ NotForUs ∷ NotAwaited ∷ UnexpectedType ∷ BadEcho ∷ BadMethod ∷ PayloadTooLong ∷ NoRoom ∷ BadType ∷ BadMac ∷ Busy ∷ Held ∷ Full ∷ AddressClash ∷ AwaitingReply ∷ NobodyListed ∷ NotWaiting ∷ BadPool ∷ StateUnfit ∷ NotDiscovering ∷ []
 
+-- the refusal that a number names; a number that is none's names the first
+pub refusalOf : ℕ → Refusal
+refusalOf n = getD listed (n - 1) Short
+
 -- a refusal stands in that list where its number says
-pub placed : (r : Refusal) → getD listed (numberOf r - 1) Short ≡ r
-unfolding listed
+pub placed : (r : Refusal) → refusalOf (numberOf r) ≡ r
+unfolding listed refusalOf
 placed Short = refl
 placed OverLong = refl
 placed LengthMismatch = refl
@@ -41,33 +48,28 @@ placed StateUnfit = refl
 placed NotDiscovering = refl
 
 pub same-number : (r q : Refusal) → numberOf r ≡ numberOf q → r ≡ q
-same-number r q h = sym (placed r) ∙ ap (λ (n : ℕ). getD listed (n - 1) Short) h ∙ placed q
+same-number r q h = sym (placed r) ∙ ap refusalOf h ∙ placed q
+
+-- a number that some refusal has is the number of the refusal that it names
+named : (n : ℕ) (r : Refusal) → numberOf r ≡ n → numberOf (refusalOf n) ≡ n
+named n r h = ap (λ (m : ℕ). numberOf (refusalOf m)) (sym h) ∙ ap numberOf (placed r) ∙ h
 
 -- no refusal has the number 0, by which an answer that refuses is told from one that does not
 pub not-zero : (r : Refusal) → numberOf r ≡ 0 → ⊥
-not-zero Short h = omega arith
-not-zero OverLong h = omega arith
-not-zero LengthMismatch h = omega arith
-not-zero BadChecksum h = omega arith
-not-zero NotForUs h = omega arith
-not-zero NotAwaited h = omega arith
-not-zero UnexpectedType h = omega arith
-not-zero BadEcho h = omega arith
-not-zero BadMethod h = omega arith
-not-zero PayloadTooLong h = omega arith
-not-zero NoRoom h = omega arith
-not-zero BadType h = omega arith
-not-zero BadMac h = omega arith
-not-zero Busy h = omega arith
-not-zero Held h = omega arith
-not-zero Full h = omega arith
-not-zero AddressClash h = omega arith
-not-zero AwaitingReply h = omega arith
-not-zero NobodyListed h = omega arith
-not-zero NotWaiting h = omega arith
-not-zero BadPool h = omega arith
-not-zero StateUnfit h = omega arith
-not-zero NotDiscovering h = omega arith
+unfolding listed refusalOf
+not-zero r h = omega (arith, named 0 r h)
+
+-- nor one past the end of the list, so that a number is a byte
+pub number-byte : (r : Refusal) → numberOf r < 256
+unfolding listed refusalOf
+number-byte r = go (ltb (numberOf r) 256) refl
+  where
+    past : 256 ≤ numberOf r → ⊥
+    past l = omega (arith, l, ap numberOf (sym (List·getD-eq-default listed Short {n = numberOf r - 1} (omega (arith, l))) ∙ placed r))
+
+    go : (b : Bool) → ltb (numberOf r) 256 ≡ b → numberOf r < 256
+    go true e = ltb-true (numberOf r) 256 e
+    go false e = absurd (past (ltb-false (numberOf r) 256 e))
 
 -- two answers that refuse and say the same refuse the same
 pub same-refused : (r q : Refusal) → refuses r ≡ refuses q → r ≡ q
