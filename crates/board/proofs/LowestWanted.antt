@@ -24,6 +24,14 @@ pub lowest-case : (t : List Node) (w : Wanted) (limit : ℕ) → FirstCase 0 (wa
 unfolding lowestOf
 lowest-case t w limit = first-case 0 (wantedAt w t) 1 (min limit 40)
 
+-- a lowest position other than 0 is one from 1 to the limit, and wanted
+pub lowest-wanted : (t : List Node) (w : Wanted) (limit : ℕ) → 0 < lowestOf t w limit → First (wantedAt w t) 1 (min limit 40) (lowestOf t w limit)
+lowest-wanted t w limit l = go (lowest-case t w limit)
+  where
+    go : FirstCase 0 (wantedAt w t) 1 (min limit 40) (lowestOf t w limit) → First (wantedAt w t) 1 (min limit 40) (lowestOf t w limit)
+    go (inl (none, zeroed)) = absurd (let z : ⊥ = omega arith in z)
+    go (inr f) = f
+
 -- where somebody up to the limit is wanted, the lowest is found
 pub lowest-found : (t : List Node) (w : Wanted) (limit p : ℕ) → wantedAt w t p ≡ true → 1 ≤ p → p ≤ min limit 40 → First (wantedAt w t) 1 (min limit 40) (lowestOf t w limit)
 lowest-found t w limit p e h l = go (lowest-case t w limit)

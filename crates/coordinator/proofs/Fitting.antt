@@ -7,17 +7,16 @@ use mathlib.Core.Bool.{Bool, true, false, _&&_, not, false≢true}
 use mathlib.Core.List.{List}
 use lib.Dec.{eqb, leb, ltb}
 use lib.ListN.{length}
-use borrow.Author.Tests.{eqb-true, eqb-false, not-true, ltb-true, leb-true, le-ltb, lt-ltb, le-leb, eq-eqb, ne-eqb}
+use borrow.Author.Tests.{eqb-true, eqb-false, not-true, ltb-true, leb-true, lt-ltb, le-leb, eq-eqb, ne-eqb}
 use Rattle.ground.proofs.Choices.{and-left, and-right, both, or-left, or-right, either, not-yes}
 use Rattle.ground.proofs.Loops.{some-of}
-use Rattle.ground.proofs.Firsts.{FirstCase}
 use Rattle.board.specs.declared.Node.{Node}
 use Rattle.board.specs.declared.Wanted.the-variants.{Listed as ListedOnes}
 use Rattle.board.specs.Node.{isKind, isMac}
 use Rattle.board.specs.Table.{at, listedAt}
 use Rattle.board.specs.Wanted.{lowestOf, someListed}
 use Rattle.board.proofs.Positions.{listed-within}
-use Rattle.board.proofs.LowestWanted.{lowest-case, some-lowest}
+use Rattle.board.proofs.LowestWanted.{lowest-wanted, some-lowest}
 use Rattle.setup.specs.Setup.{setupFits}
 use Rattle.setup.specs.Fit.{tableFits}
 use Rattle.setup.specs.Fitness.{Position, Listed}
@@ -59,11 +58,7 @@ none-listed t p e h = go (listedAt t p) refl
 
 -- where somebody is listed, the lowest listed position is one
 pub some-listed : (t : List Node) → someListed t ≡ true → listedAt t (lowestOf t ListedOnes 40) ≡ true
-some-listed t h = go (lowest-case t ListedOnes 40)
-  where
-    go : FirstCase 0 (listedAt t) 1 40 (lowestOf t ListedOnes 40) → listedAt t (lowestOf t ListedOnes 40) ≡ true
-    go (inl (none, zeroed)) = absurd (false≢true (sym (le-ltb 0 (lowestOf t ListedOnes 40) (omega arith)) ∙ some-lowest t ∙ h))
-    go (inr f) = f .passes
+some-listed t h = lowest-wanted t ListedOnes 40 (ltb-true 0 (lowestOf t ListedOnes 40) (some-lowest t ∙ h)) .passes
 
 -- what is kept
 

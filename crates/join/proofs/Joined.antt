@@ -1,26 +1,25 @@
 -- What a join does: 17 is never given; an accepted join lists the board at a position from 1 to k; a board that comes back keeps its position and type (01, "Join").
-use Prim.Native.Nat.{ℕ, _≤_, _<_, min}
+use Prim.Native.Nat.{ℕ, _<_, min}
 use native.Mathlib.Omega.{arith}
 use mathlib.Core.Path.{_≡_, refl, sym, ap, _∙_}
 use mathlib.Core.Logic.{_⊎_, inl, inr}
 use mathlib.Core.Bool.{Bool, true, false, _&&_, not, false≢true}
 use mathlib.Core.List.{List, [], _∷_}
-use lib.Dec.{eqb, ltb}
-use borrow.Author.Tests.{eqb-true, eqb-false, eq-eqb, ne-eqb, lt-ltb, le-ltb, ltb-true, ltb-false}
+use lib.Dec.{eqb}
+use borrow.Author.Tests.{eqb-true, eqb-false, eq-eqb, ne-eqb, not-false}
 use Rattle.ground.specs.Choose.{choose}
-use Rattle.ground.proofs.Choices.{choose-yes, choose-no, and-left, and-right, both, not-left, not-right}
+use Rattle.ground.proofs.Choices.{both, not-left, not-right}
 use Rattle.ground.proofs.Loops.{some-no}
 use Rattle.ground.proofs.Firsts.{FirstCase}
 use Rattle.refusal.specs.Refusal.{Told, ruled, refuses}
 use Rattle.refusal.specs.declared.Refusal.the-variants.{StateUnfit, BadType, BadMac, Busy, Held, Full, AddressClash}
 use Rattle.refusal.proofs.Rules.{Passed}
 use Rattle.board.specs.declared.Node.{Node}
-use Rattle.board.specs.declared.Wanted.{Wanted}
 use Rattle.board.specs.declared.Wanted.the-variants.{Mac, Free}
 use Rattle.board.specs.Node.{isListed, isKind}
 use Rattle.board.specs.Table.{at, listedAt}
 use Rattle.board.specs.Wanted.{wantedAt, lowestOf}
-use Rattle.board.specs.Change.{joinedNode, heard, renewed, owe}
+use Rattle.board.specs.Change.{heard, renewed, owe}
 use Rattle.board.proofs.Changes.{at-put, at-owe-all}
 use Rattle.board.proofs.LowestWanted.{lowest-case, lowest-found}
 use Rattle.setup.specs.Setup.{address}
@@ -32,64 +31,9 @@ use Rattle.coordinator.specs.Fit.{fits}
 use Rattle.coordinator.specs.Fitness.{Fit}
 use Rattle.coordinator.proofs.Fitting.{listed-told, listed-passes, fit-told}
 use Rattle.steps.specs.After.{After, rests}
-use Rattle.steps.specs.Join.{known, chosen, isClash, joining, joinRules, joinOf}
-use Rattle.join.proofs.Verdict.{taken, join-passed, join-says, join-accepted}
-
-not-false : (b : Bool) → not b ≡ false → b ≡ true
-not-false true h = refl
-not-false false h = sym h
-
--- a lowest position other than 0 is one from 1 to k, and wanted
-found : (t : List Node) (w : Wanted) (k : ℕ) → (lowestOf t w k ≡ 0 → ⊥) → Position k (lowestOf t w k) × (wantedAt w t (lowestOf t w k) ≡ true)
-found t w k ne = go (lowest-case t w k)
-  where
-    go : FirstCase 0 (wantedAt w t) 1 (min k 40) (lowestOf t w k) → Position k (lowestOf t w k) × (wantedAt w t (lowestOf t w k) ≡ true)
-    go (inl (none, zeroed)) = absurd (ne zeroed)
-    go (inr f) = (record { from = f .from; upTo = omega (arith, f .within) }, f .passes)
-
-module _ (t : List Node) (k mac : ℕ) where
-  -- what holds where the MAC is listed and where it is new
-  by-known {ℓ} : (P : Type ℓ) → (0 < known t k mac → P) → (known t k mac ≤ 0 → P) → P
-  by-known P f g = go (ltb 0 (known t k mac)) refl
-    where
-      go : (b : Bool) → ltb 0 (known t k mac) ≡ b → P
-      go true e = f (ltb-true 0 (known t k mac) e)
-      go false e = g (ltb-false 0 (known t k mac) e)
-
-  -- the position chosen is a listed MAC's own, else the lowest free one
-  chosen-known : 0 < known t k mac → chosen t k mac ≡ known t k mac
-  chosen-known l = sym (choose-yes (ltb 0 (known t k mac)) _ _ (lowestOf t Free k) (lt-ltb 0 (known t k mac) l) refl)
-
-  chosen-new : known t k mac ≤ 0 → chosen t k mac ≡ lowestOf t Free k
-  chosen-new l = sym (choose-no (ltb 0 (known t k mac)) _ (known t k mac) _ (le-ltb 0 (known t k mac) l) refl)
-
-  -- it is one from 1 to k, unless it is 0
-  chosen-within : (chosen t k mac ≡ 0 → ⊥) → Position k (chosen t k mac)
-  chosen-within ne =
-      by-known _
-      (λ l. rw (chosen-known l) (found t (Mac mac) k (λ z. omega arith) .0))
-      (λ l. rw (chosen-new l) (found t Free k (λ z. ne (chosen-new l ∙ z)) .0))
-
-  -- a listed MAC's position is listed, and has that MAC
-  known-listed : 0 < known t k mac → listedAt t (known t k mac) ≡ true
-  known-listed l = and-left (listedAt t (known t k mac)) _ (found t (Mac mac) k (λ z. omega arith) .1)
-
-  known-mac : 0 < known t k mac → at t (known t k mac) .mac ≡ mac
-  known-mac l = eqb-true (at t (known t k mac) .mac) mac (and-right (listedAt t (known t k mac)) _ (found t (Mac mac) k (λ z. omega arith) .1))
-
-  -- the record that joins is that position's, heard and with another session, else a new one
-  module _ (kind session : ℕ) where
-    joining-known : 0 < known t k mac → joining t k kind mac session ≡ renewed (heard (at t (known t k mac))) session
-    joining-known l = sym (choose-yes (ltb 0 (known t k mac)) _ _ (joinedNode kind mac session) (lt-ltb 0 (known t k mac) l) refl)
-
-    joining-new : known t k mac ≤ 0 → joining t k kind mac session ≡ joinedNode kind mac session
-    joining-new l = sym (choose-no (ltb 0 (known t k mac)) _ (renewed (heard (at t (known t k mac))) session) _ (le-ltb 0 (known t k mac) l) refl)
-
-    joining-listed : isKind kind ≡ true → isListed (joining t k kind mac session) ≡ true
-    joining-listed h = by-known _ (λ l. ap isListed (joining-known l) ∙ known-listed l) (λ l. ap isListed (joining-new l) ∙ and-left (not (eqb kind 0)) _ h)
-
-    joining-mac : joining t k kind mac session .mac ≡ mac
-    joining-mac = by-known _ (λ l. ap (λ (n : Node). n .mac) (joining-known l) ∙ known-mac l) (λ l. ap (λ (n : Node). n .mac) (joining-new l))
+use Rattle.steps.specs.Join.{known, chosen, isClash, joining, joinRules, joinedAs, joinOf}
+use Rattle.steps.proofs.Chosen.{by-known, chosen-known, chosen-new, chosen-within, known-listed, known-mac, joining-known, joining-listed, joining-mac}
+use Rattle.join.proofs.Verdict.{join-passed, join-says, join-accepted}
 
 -- 17 is never given
 
@@ -161,7 +105,7 @@ module _ (c : Coordinator) (t : List Node) (kind mac session : ℕ) (accepted : 
   within = chosen-within t (c .setup .k) mac (eqb-false (chosen t (c .setup .k) mac) 0 (rules .1 .1 .1 .1 .1 .0))
 
   -- what stands at the position afterwards
-  joined-record : at (taken c t kind mac session .nodes) (chosen t (c .setup .k) mac) ≡ owe (joining t (c .setup .k) kind mac session)
+  joined-record : at (joinedAs c t kind mac session .nodes) (chosen t (c .setup .k) mac) ≡ owe (joining t (c .setup .k) kind mac session)
   joined-record = at-owe-all _ (chosen t (c .setup .k) mac) ∙ ap owe (at-put t (chosen t (c .setup .k) mac) _ (within .from) (omega (arith, fit .table .forty, within .upTo, fit .setup .pool .upTo)))
 
   pub joined-listed : ListedAs (c .setup .k) mac (joinOf c t kind mac session)
@@ -192,5 +136,5 @@ module _ (c : Coordinator) (t : List Node) (kind mac session : ℕ) (accepted : 
       there : chosen t (c .setup .k) mac ≡ p
       there = chosen-known t (c .setup .k) mac here ∙ same
 
-      after : at (taken c t kind mac session .nodes) p ≡ owe (renewed (heard (at t p)) session)
-      after = ap (at (taken c t kind mac session .nodes)) (sym there) ∙ joined-record ∙ ap owe (joining-known t (c .setup .k) mac kind session here ∙ ap (λ (q : ℕ). renewed (heard (at t q)) session) same)
+      after : at (joinedAs c t kind mac session .nodes) p ≡ owe (renewed (heard (at t p)) session)
+      after = ap (at (joinedAs c t kind mac session .nodes)) (sym there) ∙ joined-record ∙ ap owe (joining-known t (c .setup .k) mac kind session here ∙ ap (λ (q : ℕ). renewed (heard (at t q)) session) same)

@@ -5,11 +5,11 @@ use mathlib.Core.List.{List}
 use lib.ListN.{drop}
 use borrow.Author.Tests.{eqb-false}
 use Rattle.board.specs.declared.Node.{Node}
+use Rattle.setup.proofs.Places.{free-found}
 use Rattle.coordinator.specs.declared.Coordinator.{Coordinator}
 use Rattle.coordinator.proofs.Changing.{searching-fits}
 use Rattle.steps.specs.Discover.{freePlace, discoverRules, searched, discoverOf}
 use Rattle.lasting.proofs.Keeps.{Keeps, accepted-keeps, rules-keep}
-use Rattle.lasting.proofs.Join.{free-found}
 
 -- the position at stake is a free one of 1 to k
 pub discover-keeps : (c : Coordinator) (t : List Node) (room : ℕ) → Keeps c t (discoverOf c t room)

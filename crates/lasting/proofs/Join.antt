@@ -1,7 +1,6 @@
 -- A join keeps fit.
-use Prim.Native.Nat.{ℕ, _≤_, min}
+use Prim.Native.Nat.{ℕ, _≤_}
 use mathlib.Core.Path.{_≡_, refl, sym, _∙_}
-use mathlib.Core.Logic.{inl, inr}
 use mathlib.Core.Bool.{Bool, true, false, _&&_, _||_, not, false≢true}
 use mathlib.Core.List.{List}
 use native.Mathlib.Omega.{arith}
@@ -11,7 +10,6 @@ use borrow.Author.Tests.{ltb-true, ltb-false, eqb-true, eqb-false, eq-eqb, ne-eq
 use Rattle.ground.specs.Choose.{choose}
 use Rattle.ground.proofs.Choices.{and-left, and-right, both}
 use Rattle.ground.proofs.Loops.{some-no}
-use Rattle.ground.proofs.Firsts.{FirstCase}
 use Rattle.refusal.specs.declared.Refusal.{Refusal}
 use Rattle.refusal.specs.declared.Refusal.the-variants.{BadType, BadMac, Busy, Held, Full, AddressClash}
 use Rattle.refusal.proofs.Rules.{Passed, Each, each, by-rules}
@@ -19,13 +17,14 @@ use Rattle.board.specs.declared.Node.{Node}
 use Rattle.board.specs.declared.Wanted.the-variants.{Mac, Free}
 use Rattle.board.specs.Node.{isKind, isMac}
 use Rattle.board.specs.Table.{at, put, listedAt}
-use Rattle.board.specs.Wanted.{wantedAt, lowestOf}
+use Rattle.board.specs.Wanted.{lowestOf}
 use Rattle.board.specs.Change.{joinedNode, heard, renewed, oweAll}
-use Rattle.board.proofs.LowestWanted.{lowest-case}
+use Rattle.board.proofs.LowestWanted.{lowest-found}
 use Rattle.board.proofs.Changes.{owe-all-listed}
 use Rattle.setup.specs.Fitness.{Position, Listed, InRanges, FitTable}
 use Rattle.setup.specs.Setup.{address}
 use Rattle.setup.proofs.Apart.{free-apart}
+use Rattle.setup.proofs.Places.{FreePlace, free-found}
 use Rattle.setup.proofs.Pools.{mac-told}
 use Rattle.setup.proofs.Tables.{table-passes}
 use Rattle.coordinator.specs.declared.Phase.{Phase}
@@ -38,37 +37,13 @@ use Rattle.coordinator.specs.Change.{holding}
 use Rattle.coordinator.proofs.Fitting.{listed-told, listed-passes, listed-some, fits-of, fits-setup, fits-seek, fits-searched, fits-last, fit-told}
 use Rattle.steps.specs.After.{After, refused}
 use Rattle.steps.specs.Join.{isResting, known, chosen, isClash, joining, joinRules, joinOf}
+use Rattle.steps.proofs.Chosen.{known-listed}
 use Rattle.lasting.proofs.Tables.{Follows, renewed-follows, put-fit, put-listed, join-fit, join-listed, owe-all-fit}
 use Rattle.lasting.proofs.Keeps.{Keeps, accepted-keeps, refused-keeps, never-keeps, unfit-keeps, some-same, table-fit}
 
--- a MAC that is known is that of a listed board
-pub known-listed : (t : List Node) (k mac : ℕ) → ltb 0 (known t k mac) ≡ true → listedAt t (known t k mac) ≡ true
-known-listed t k mac e = go (lowest-case t (Mac mac) k)
-  where
-    go : FirstCase 0 (wantedAt (Mac mac) t) 1 (min k 40) (known t k mac) → listedAt t (known t k mac) ≡ true
-    go (inl (none, zeroed)) = absurd (let z : ⊥ = omega (arith, ltb-true 0 (known t k mac) e) in z)
-    go (inr f) = and-left (listedAt t (known t k mac)) (eqb (at t (known t k mac) .mac) mac) (f .passes)
-
 -- a MAC that is not known is nobody's
 pub nobody-has : (t : List Node) (k mac : ℕ) → k ≤ 40 → FitTable k t → ltb 0 (known t k mac) ≡ false → (q : ℕ) → Listed t q → at t q .mac ≡ mac → ⊥
-nobody-has t k mac few f e q l same = go (lowest-case t (Mac mac) k)
-  where
-    go : FirstCase 0 (wantedAt (Mac mac) t) 1 (min k 40) (known t k mac) → ⊥
-    go (inl (none, zeroed)) = false≢true (sym (none q (f .within q l .from) (omega (arith, f .within q l .upTo))) ∙ both (listedAt t q) (eqb (at t q .mac) mac) (listed-passes t q l) (eq-eqb (at t q .mac) mac same))
-    go (inr x) = omega (arith, ltb-false 0 (known t k mac) e, x .from)
-
--- a free position that was found is one of 1 to k, and free
-pub record FreePlace (t : List Node) (k p : ℕ) : Type 0 where
-  pub place : Position k p
-  pub inside : p ≤ 40
-  pub free : at t p .kind ≡ 0
-
-pub free-found : (t : List Node) (k : ℕ) → (lowestOf t Free k ≡ 0 → ⊥) → FreePlace t k (lowestOf t Free k)
-free-found t k ne = go (lowest-case t Free k)
-  where
-    go : FirstCase 0 (wantedAt Free t) 1 (min k 40) (lowestOf t Free k) → FreePlace t k (lowestOf t Free k)
-    go (inl (none, zeroed)) = absurd (ne zeroed)
-    go (inr f) = record { place = record { from = f .from; upTo = omega (arith, f .within) }; inside = omega (arith, f .within); free = eqb-true (at t (lowestOf t Free k) .kind) 0 (not-false _ (not-true _ (f .passes))) }
+nobody-has t k mac few f e q l same = omega (arith, ltb-false 0 (known t k mac) e, lowest-found t (Mac mac) k q (both (listedAt t q) (eqb (at t q .mac) mac) (listed-passes t q l) (eq-eqb (at t q .mac) mac same)) (f .within q l .from) (omega (arith, few, f .within q l .upTo)) .from)
 
 -- a board's record put at a position: the table is fit, and the board is listed there
 abbrev Placed : ℕ → List Node → ℕ → Node → Type 0
@@ -86,13 +61,13 @@ module _ (c : Coordinator) (t : List Node) (h : fits c t ≡ true) (kind mac ses
       }
 
   comes-back : ltb 0 (known t (c .setup .k) mac) ≡ true → Placed (c .setup .k) t (known t (c .setup .k) mac) (renewed (heard (at t (known t (c .setup .k) mac))) session)
-  comes-back e = (put-fit (c .setup .k) t f _ _ l s, put-listed (c .setup .k) t f _ _ l s (known t (c .setup .k) mac) ∙ known-listed t (c .setup .k) mac e)
+  comes-back e = (put-fit (c .setup .k) t f _ _ l s, put-listed (c .setup .k) t f _ _ l s (known t (c .setup .k) mac) ∙ known-listed t (c .setup .k) mac (ltb-true 0 (known t (c .setup .k) mac) e))
     where
       f : FitTable (c .setup .k) t
       f = table-fit c t h
 
       l : Listed t (known t (c .setup .k) mac)
-      l = listed-told t (known t (c .setup .k) mac) (known-listed t (c .setup .k) mac e)
+      l = listed-told t (known t (c .setup .k) mac) (known-listed t (c .setup .k) mac (ltb-true 0 (known t (c .setup .k) mac) e))
 
       s : Follows (at t (known t (c .setup .k) mac)) (renewed (heard (at t (known t (c .setup .k) mac))) session)
       s = renewed-follows (at t (known t (c .setup .k) mac)) session

@@ -1,23 +1,20 @@
 -- A turn keeps fit.
-use Prim.Native.Nat.{ℕ, min}
+use Prim.Native.Nat.{ℕ}
 use mathlib.Core.Path.{_≡_, refl, sym}
-use mathlib.Core.Logic.{inl, inr}
 use mathlib.Core.Bool.{Bool, true, false, _&&_, not, false≢true}
 use mathlib.Core.List.{List}
-use native.Mathlib.Omega.{arith}
 use lib.ListN.{drop}
 use lib.Dec.{ltb, eqb}
 use borrow.Author.Tests.{ltb-true}
 use Rattle.ground.specs.Choose.{choose}
 use Rattle.ground.proofs.Choices.{and-left, both}
-use Rattle.ground.proofs.Firsts.{FirstCase}
 use Rattle.board.specs.declared.Node.{Node}
 use Rattle.board.specs.declared.Wanted.the-variants.{Owed, Listed as ListedOnes}
 use Rattle.board.specs.Table.{at, put, listedAt}
-use Rattle.board.specs.Wanted.{wantedAt, lowestOf, someListed}
+use Rattle.board.specs.Wanted.{lowestOf, someListed}
 use Rattle.board.specs.Round.{nextListed}
 use Rattle.board.specs.Change.{unmarked}
-use Rattle.board.proofs.LowestWanted.{lowest-case}
+use Rattle.board.proofs.LowestWanted.{lowest-wanted}
 use Rattle.board.proofs.NextListed.{next-nearest}
 use Rattle.coordinator.specs.declared.Phase.{Phase}
 use Rattle.coordinator.specs.declared.Phase.the-variants.{Resting, Awaiting, ForwardDue, ReturnDue, Seeking, Unknown}
@@ -34,11 +31,7 @@ use Rattle.lasting.proofs.Seek.{seek-due-keeps}
 
 -- a list goes to a listed board
 pub owed-listed : (c : Coordinator) (t : List Node) → ltb 0 (owedTo c t) ≡ true → listedAt t (owedTo c t) ≡ true
-owed-listed c t e = go (lowest-case t Owed (c .setup .k))
-  where
-    go : FirstCase 0 (wantedAt Owed t) 1 (min (c .setup .k) 40) (owedTo c t) → listedAt t (owedTo c t) ≡ true
-    go (inl (none, zeroed)) = absurd (let z : ⊥ = omega (arith, ltb-true 0 (owedTo c t) e) in z)
-    go (inr f) = and-left (listedAt t (owedTo c t)) (eqb (at t (owedTo c t) .owed) 1) (f .passes)
+owed-listed c t e = and-left (listedAt t (owedTo c t)) (eqb (at t (owedTo c t) .owed) 1) (lowest-wanted t Owed (c .setup .k) (ltb-true 0 (owedTo c t) e) .passes)
 
 -- so does an offer, where somebody is listed
 pub next-listed : (c : Coordinator) (t : List Node) → fits c t ≡ true → someListed t ≡ true → listedAt t (nextListed t (c .setup .k) (c .last)) ≡ true

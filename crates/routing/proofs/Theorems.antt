@@ -13,14 +13,14 @@ use borrow.Author.Tests.{eqb-true, eqb-false, eq-eqb, ne-eqb, ltb-true, leb-true
 use Rattle.ground.specs.Choose.{choose}
 use Rattle.ground.specs.Below.{among}
 use Rattle.ground.proofs.Choices.{and-left, and-right, both}
-use Rattle.ground.proofs.Firsts.{FirstCase}
+use Rattle.ground.proofs.Firsts.{First}
 use Rattle.ground.proofs.Picks.{first-passes, first-among, first-after}
 use Rattle.board.specs.declared.Node.{Node}
 use Rattle.board.specs.declared.Wanted.the-variants.{Kind}
 use Rattle.board.specs.Table.{at, listedAt}
 use Rattle.board.specs.Wanted.{wantedAt, lowestOf}
 use Rattle.board.proofs.Positions.{listed-within}
-use Rattle.board.proofs.LowestWanted.{lowest-case, lowest-found}
+use Rattle.board.proofs.LowestWanted.{lowest-wanted, lowest-found}
 use Rattle.routing.specs.Priority.{priorityList, dash}
 use Rattle.routing.specs.Route.{hasKind, priorityKind, atSocket, namedPosition, routeOf}
 use Rattle.routing.specs.Suits.{meant, Suits}
@@ -32,12 +32,11 @@ listed-kind t p h e = false≢true (sym (ap not (eq-eqb (at t p .kind) 0 e)) ∙
 -- a board of a type is at the lowest position of that type, and there is none where that is 0
 module _ (t : List Node) (k kind : ℕ) where
   lowest-is : 0 < lowestOf t (Kind kind) k → (listedAt t (lowestOf t (Kind kind) k) ≡ true) × (at t (lowestOf t (Kind kind) k) .kind ≡ kind) × (lowestOf t (Kind kind) k ≤ k)
-  lowest-is h = go (lowest-case t (Kind kind) k)
+  lowest-is h =
+      (and-left (listedAt t (lowestOf t (Kind kind) k)) (eqb (at t (lowestOf t (Kind kind) k) .kind) kind) (first .passes), eqb-true (at t (lowestOf t (Kind kind) k) .kind) kind (and-right (listedAt t (lowestOf t (Kind kind) k)) (eqb (at t (lowestOf t (Kind kind) k) .kind) kind) (first .passes)), omega (arith, first .within))
     where
-      go : FirstCase 0 (wantedAt (Kind kind) t) 1 (min k 40) (lowestOf t (Kind kind) k) → (listedAt t (lowestOf t (Kind kind) k) ≡ true) × (at t (lowestOf t (Kind kind) k) .kind ≡ kind) × (lowestOf t (Kind kind) k ≤ k)
-      go (inl (none, zeroed)) = absurd (let z : ⊥ = omega arith in z)
-      go (inr f) =
-          (and-left (listedAt t (lowestOf t (Kind kind) k)) (eqb (at t (lowestOf t (Kind kind) k) .kind) kind) (f .passes), eqb-true (at t (lowestOf t (Kind kind) k) .kind) kind (and-right (listedAt t (lowestOf t (Kind kind) k)) (eqb (at t (lowestOf t (Kind kind) k) .kind) kind) (f .passes)), omega (arith, f .within))
+      first : First (wantedAt (Kind kind) t) 1 (min k 40) (lowestOf t (Kind kind) k)
+      first = lowest-wanted t (Kind kind) k h
 
   lowest-any : (p : ℕ) → length t ≡ 40 → 1 ≤ p → p ≤ k → listedAt t p ≡ true → at t p .kind ≡ kind → 0 < lowestOf t (Kind kind) k
   lowest-any p size l w h e =

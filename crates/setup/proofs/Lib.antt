@@ -3,4 +3,5 @@ pub mod Lower
 pub mod Tables
 pub mod Pools
 pub mod Addresses
+pub mod Places
 pub mod Unique

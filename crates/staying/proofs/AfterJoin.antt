@@ -1,24 +1,22 @@
 -- Join: the board comes on the list, or is on it already, and its run begins anew.
-use Prim.Native.Nat.{ℕ, _≤_, min}
+use Prim.Native.Nat.{ℕ, _≤_}
 use native.Mathlib.Omega.{arith}
 use mathlib.Core.Path.{_≡_, refl, sym}
 use mathlib.Core.Bool.{Bool, true, false, not, false≢true}
-use mathlib.Core.Logic.{inl, inr}
 use mathlib.Core.List.{List, []}
 use lib.ListN.{length}
 use lib.Dec.{eqb, ltb}
-use borrow.Author.Tests.{eqb-true, eqb-false, ltb-true, not-false}
+use borrow.Author.Tests.{eqb-false, ltb-true, not-false}
 use Rattle.ground.specs.Choose.{choose}
-use Rattle.ground.proofs.Choices.{and-left, and-right}
-use Rattle.ground.proofs.Firsts.{FirstCase}
+use Rattle.ground.proofs.Choices.{and-left}
 use Rattle.refusal.proofs.Rules.{Passed}
 use Rattle.board.specs.declared.Node.{Node}
-use Rattle.board.specs.declared.Wanted.the-variants.{Mac, Free}
+use Rattle.board.specs.declared.Wanted.the-variants.{Free}
 use Rattle.board.specs.Node.{isKind, isListed}
-use Rattle.board.specs.Table.{at, put, listedAt}
-use Rattle.board.specs.Wanted.{wantedAt, lowestOf}
-use Rattle.board.proofs.LowestWanted.{lowest-case}
+use Rattle.board.specs.Table.{at, put}
+use Rattle.board.specs.Wanted.{lowestOf}
 use Rattle.board.specs.Change.{joinedNode, heard, renewed, oweAll}
+use Rattle.setup.proofs.Places.{free-found}
 use Rattle.coordinator.specs.declared.Coordinator.{Coordinator}
 use Rattle.coordinator.specs.declared.Found.{Found}
 use Rattle.coordinator.specs.declared.Phase.{Phase}
@@ -28,17 +26,10 @@ use Rattle.coordinator.specs.Fit.{fits}
 use Rattle.coordinator.proofs.Fitting.{board-listed, fits-forty}
 use Rattle.steps.specs.declared.Event.the-variants.{Join}
 use Rattle.steps.specs.Join.{isResting, known, chosen, joining, joinRules, joinedAs, joinOf}
+use Rattle.steps.proofs.Chosen.{known-listed, known-mac}
 use Rattle.series.specs.Observed.{Seen}
-use Rattle.lasting.proofs.Join.{known-listed, free-found, idle}
+use Rattle.lasting.proofs.Join.{idle}
 use Rattle.staying.proofs.Agreement.{Waits, Agrees, Told, Changes, put-changes, inside, owe-changes, listed-tells, seen-tells, rules-tell}
-
--- a MAC that is known is that of the board at its position
-known-mac : (t : List Node) (k mac : ℕ) → ltb 0 (known t k mac) ≡ true → at t (known t k mac) .mac ≡ mac
-known-mac t k mac e = go (lowest-case t (Mac mac) k)
-  where
-    go : FirstCase 0 (wantedAt (Mac mac) t) 1 (min k 40) (known t k mac) → at t (known t k mac) .mac ≡ mac
-    go (inl (none, zeroed)) = absurd (let z : ⊥ = omega (arith, ltb-true 0 (known t k mac) e) in z)
-    go (inr f) = eqb-true _ mac (and-right (listedAt t (known t k mac)) (eqb (at t (known t k mac) .mac) mac) (f .passes))
 
 -- at rest nothing is asked of the wait
 pub rests-waits : (s : Seen) (f : Found) (p : Phase) → isResting p ≡ true → Waits s f p
@@ -61,7 +52,7 @@ unfolding choose
 joining-begins t k kind mac session one = go (ltb 0 (known t k mac)) refl
   where
     go : (b : Bool) → ltb 0 (known t k mac) ≡ b → Begins mac (choose b (renewed (heard (at t (known t k mac))) session) (joinedNode kind mac session))
-    go true e = record { listed = known-listed t k mac e; misses = refl; mac = known-mac t k mac e }
+    go true e = record { listed = known-listed t k mac (ltb-true 0 (known t k mac) e); misses = refl; mac = known-mac t k mac (ltb-true 0 (known t k mac) e) }
     go false e = record { listed = and-left (not (eqb kind 0)) (not (eqb kind 165)) one; misses = refl; mac = refl }
 
 module _ (s : Seen) (c : Coordinator) (t : List Node) (h : fits c t ≡ true) (g : Agrees s c t) where
@@ -71,7 +62,7 @@ module _ (s : Seen) (c : Coordinator) (t : List Node) (h : fits c t ≡ true) (g
   chosen-inside mac = go (ltb 0 (known t (c .setup .k) mac)) refl
     where
       go : (b : Bool) → ltb 0 (known t (c .setup .k) mac) ≡ b → (choose b (known t (c .setup .k) mac) (lowestOf t Free (c .setup .k)) ≡ 0 → ⊥) → choose b (known t (c .setup .k) mac) (lowestOf t Free (c .setup .k)) ≤ length t
-      go true e ne = inside c t h (board-listed c t h (known t (c .setup .k) mac) (known-listed t (c .setup .k) mac e))
+      go true e ne = inside c t h (board-listed c t h (known t (c .setup .k) mac) (known-listed t (c .setup .k) mac (ltb-true 0 (known t (c .setup .k) mac) e)))
       go false e ne = omega (arith, free-found t (c .setup .k) ne .inside, fits-forty c t h)
 
   module _ (kind mac session : ℕ) (one : isKind kind ≡ true) (found : chosen t (c .setup .k) mac ≡ 0 → ⊥) where

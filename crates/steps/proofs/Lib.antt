@@ -1,3 +1,4 @@
+pub mod Chosen
 pub mod Shows
 pub mod Writes
 pub mod Refusals

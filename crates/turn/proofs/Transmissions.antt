@@ -1,5 +1,5 @@
 -- What a turn sends: a good frame, from us, to a listed board's address in our subnet, or in the exchange by which a board joins to the address at stake or to all; and what it says in each exchange.
-use Prim.Native.Nat.{ℕ, _≤_, _<_, min}
+use Prim.Native.Nat.{ℕ, _≤_, _<_}
 use native.Mathlib.Omega.{arith}
 use mathlib.Core.Path.{_≡_, refl, sym, ap, subst, _∙_}
 use mathlib.Core.Logic.{_⊎_, inl, inr}
@@ -10,7 +10,6 @@ use lib.Dec.{eqb, ltb}
 use borrow.Author.Tests.{ltb-true, not-false}
 use Rattle.ground.specs.Choose.{choose}
 use Rattle.ground.proofs.Choices.{and-left}
-use Rattle.ground.proofs.Firsts.{FirstCase}
 use Rattle.refusal.specs.Refusal.{Told, gives}
 use Rattle.refusal.proofs.Numbers.{not-zero}
 use Rattle.refusal.proofs.Rules.{Passed, passed, unrefused}
@@ -20,9 +19,9 @@ use Rattle.frame.proofs.RoundTrip.{reads-back, reads-back-payload}
 use Rattle.board.specs.declared.Node.{Node}
 use Rattle.board.specs.declared.Wanted.the-variants.{Listed as ListedOnes, Owed}
 use Rattle.board.specs.Table.{at, listedAt}
-use Rattle.board.specs.Wanted.{wantedAt, lowestOf, someListed, indexOf}
+use Rattle.board.specs.Wanted.{lowestOf, someListed, indexOf}
 use Rattle.board.specs.Round.{nextListed}
-use Rattle.board.proofs.LowestWanted.{lowest-case}
+use Rattle.board.proofs.LowestWanted.{lowest-wanted}
 use Rattle.board.proofs.NextListed.{next-nearest}
 use Rattle.setup.specs.Setup.{address}
 use Rattle.setup.specs.Fitness.{Position, FitSetup}
@@ -185,11 +184,7 @@ module _ (c : Coordinator) (t : List Node) where
 
   -- the list goes to a listed board, for it is owed there
   owed-listed : 0 < owedTo c t → listedAt t (owedTo c t) ≡ true
-  owed-listed l = go (lowest-case t Owed (c .setup .k))
-    where
-      go : FirstCase 0 (wantedAt Owed t) 1 (min (c .setup .k) 40) (owedTo c t) → listedAt t (owedTo c t) ≡ true
-      go (inl (none, zeroed)) = absurd (let z : ⊥ = omega arith in z)
-      go (inr f) = and-left (listedAt t (owedTo c t)) (eqb (at t (owedTo c t) .owed) 1) (f .passes)
+  owed-listed l = and-left (listedAt t (owedTo c t)) (eqb (at t (owedTo c t) .owed) 1) (lowest-wanted t Owed (c .setup .k) l .passes)
 
   -- where nothing is due by itself and yet a turn is not refused 19, somebody is listed
   someone : (p : Phase) → isDue p ≡ false → (not (someListed t) && not (isDue p)) ≡ false → someListed t ≡ true

@@ -3,7 +3,7 @@ use Prim.Native.Nat.{ℕ, _≤_, _<_}
 use native.Mathlib.Omega.{arith}
 use mathlib.Core.Path.{_≡_, refl}
 use mathlib.Core.Bool.{true, false, not, false≢true}
-use mathlib.Core.List.{List, []}
+use mathlib.Core.List.{List}
 use lib.Dec.{eqb, ltb}
 use borrow.Author.Tests.{not-false}
 use Rattle.ground.proofs.Choices.{neither}
@@ -22,8 +22,8 @@ use Rattle.coordinator.specs.Phase.{phaseOf}
 use Rattle.coordinator.specs.Fit.{fits}
 use Rattle.coordinator.specs.Change.{holding}
 use Rattle.coordinator.proofs.Fitting.{fits-forty}
-use Rattle.steps.specs.After.{After, refused, rests}
-use Rattle.steps.specs.Join.{isResting, isBusy, chosen, joining, joinRules, joinOf}
+use Rattle.steps.specs.After.{After, refused}
+use Rattle.steps.specs.Join.{isResting, isBusy, chosen, joining, joinRules, joinedAs, joinOf}
 use Rattle.turns.specs.Potential.{underWay, potential}
 use Rattle.turns.proofs.Numbers.{ahead-join}
 use Rattle.turns.proofs.Moves.{Moves, Works, works, guarded, plain-rests, listed-most}
@@ -60,23 +60,19 @@ module _ (c : Coordinator) (t : List Node) (h : fits c t ≡ true) where
   idle e = rests-only (phaseOf (c .stand)) (not-false (isResting (phaseOf (c .stand))) (neither (not (isResting (phaseOf (c .stand)))) (ltb 0 (lowestOf t Owed (c .setup .k))) e .0))
 
   module _ (kind mac session : ℕ) where
-    -- what a join leaves that no rule refuses
-    abbrev value : After
-    value = record { coordinator = holding c true; nodes = oweAll (put t (chosen t (c .setup .k) mac) (joining t (c .setup .k) kind mac session)); says = rests; bytes = []; joined = chosen t (c .setup .k) mac; dropped = 0 }
-
     -- it is work
-    join-works : Passed (joinRules c t kind mac) → Works c t value
+    join-works : Passed (joinRules c t kind mac) → Works c t (joinedAs c t kind mac session)
     join-works passed = record { said = refl; nobody = plain-rests .1; last = refl; falls = λ f n m. join-falls (chosen t (c .setup .k) mac) (joining t (c .setup .k) kind mac session) (idle (passed .1 .1 .1 .0)) (passed .1 .1 .1 .1 .0) f n }
 
     -- so a join is a refusal, or work
     pub join-moves : Moves c t (joinOf c t kind mac session)
     unfolding joinOf
-    join-moves = guarded c t (joinRules c t kind mac) value (λ passed. works (join-works passed))
+    join-moves = guarded c t (joinRules c t kind mac) (joinedAs c t kind mac session) (λ passed. works (join-works passed))
 
     -- refused or not, a join leaves the potential no higher
     pub join-lowers : Lowers c t (joinOf c t kind mac session)
     unfolding joinOf
-    join-lowers = by-rules (Lowers c t) (joinRules c t kind mac) (refused c t) value (each unchanged (joinRules c t kind mac)) (λ passed. record { last = refl; most = λ f n m. omega (arith, join-works passed .falls f n m) })
+    join-lowers = by-rules (Lowers c t) (joinRules c t kind mac) (refused c t) (joinedAs c t kind mac session) (each unchanged (joinRules c t kind mac)) (λ passed. record { last = refl; most = λ f n m. omega (arith, join-works passed .falls f n m) })
       where
         unchanged : (r : Refusal) → Lowers c t (refused c t r)
         unchanged r = record { last = refl; most = λ f n m. omega arith }

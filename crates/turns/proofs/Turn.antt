@@ -1,8 +1,7 @@
 -- What a turn is: a refusal, an offer to the next listed board, or work.
-use Prim.Native.Nat.{ℕ, _+_, min}
+use Prim.Native.Nat.{ℕ, _+_}
 use native.Mathlib.Omega.{arith}
 use mathlib.Core.Path.{_≡_, refl, sym, ap}
-use mathlib.Core.Logic.{inl, inr}
 use mathlib.Core.Bool.{Bool, true, false, false≢true}
 use mathlib.Core.List.{List}
 use lib.Dec.{eqb, ltb}
@@ -10,7 +9,6 @@ use borrow.Author.Tests.{ltb-true}
 use Rattle.ground.specs.Choose.{choose}
 use Rattle.ground.specs.Below.{one}
 use Rattle.ground.proofs.Choices.{and-left, not-right}
-use Rattle.ground.proofs.Firsts.{FirstCase}
 use Rattle.refusal.proofs.Rules.{Passed}
 use Rattle.board.specs.declared.Node.{Node}
 use Rattle.board.specs.declared.Wanted.the-variants.{Listed, Owed}
@@ -18,7 +16,7 @@ use Rattle.board.specs.Table.{at, put, listedAt}
 use Rattle.board.specs.Wanted.{wantedAt, countOf}
 use Rattle.board.specs.Change.{unmarked}
 use Rattle.board.specs.Round.{nextListed}
-use Rattle.board.proofs.LowestWanted.{lowest-case}
+use Rattle.board.proofs.LowestWanted.{lowest-wanted}
 use Rattle.board.proofs.Counts.{count-put}
 use Rattle.coordinator.specs.declared.Coordinator.{Coordinator}
 use Rattle.coordinator.specs.declared.Exchange.the-variants.{List as Listing, Forward, Return}
@@ -38,11 +36,7 @@ module _ (c : Coordinator) (t : List Node) (h : fits c t ≡ true) where
   -- a list to the lowest position owed: it is owed there no more
   module _ (l : ltb 0 (owedTo c t) ≡ true) where
     pub owed-there : wantedAt Owed t (owedTo c t) ≡ true
-    owed-there = go (lowest-case t Owed (c .setup .k))
-      where
-        go : FirstCase 0 (wantedAt Owed t) 1 (min (c .setup .k) 40) (owedTo c t) → wantedAt Owed t (owedTo c t) ≡ true
-        go (inl (none, zeroed)) = absurd (let z : ⊥ = omega (arith, ltb-true 0 (owedTo c t) l) in z)
-        go (inr f) = f .passes
+    owed-there = lowest-wanted t Owed (c .setup .k) (ltb-true 0 (owedTo c t) l) .passes
 
     pub owed-board : Board c t (owedTo c t)
     owed-board = board-listed c t h (owedTo c t) (and-left (listedAt t (owedTo c t)) (eqb (at t (owedTo c t) .owed) 1) owed-there)
