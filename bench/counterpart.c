@@ -262,9 +262,6 @@ struct ct_answer ct_join(ct_coordinator *c, ct_node *nodes, size_t nodes_count, 
         n->session = session;
         n->misses = 0;
     } else {
-        for (size_t i = 0; i < k; i++)
-            if (nodes[i].kind != 0 && c->setup.pool[i] == c->setup.pool[position - 1])
-                return refuse(NADRELGOS_ADDRESS_CLASH);
         *n = (ct_node){.kind = kind, .mac = mac, .session = session};
     }
     owe_all(nodes);

@@ -205,7 +205,7 @@ enum nadrelgos_event_number {
  * then what the firmware does next. "Listen on" means: the wait, where one is on, is still on. Drop the bytes and go on
  * listening until a frame ends the wait; when the reply timer has run out, call nadrelgos_quiet. "The exchange" is the
  * one by which a board joins: stages 8 to 13. Where more than one holds, the first in this order is given: 22; then in
- * setup 21, 13; in a join 12 to 17; in a discover 14, 15, 16, 11; in a turn 18, 19, 11; in a frame 1 to 5, 23, 6 to 9,
+ * setup 21, 13; in a join 12 to 16; in a discover 14, 15, 16, 11; in a turn 18, 19, 11; in a frame 1 to 5, 23, 6 to 9,
  * 11; in a quiet 20.
  */
 enum nadrelgos_refusal_number {
@@ -250,8 +250,8 @@ enum nadrelgos_refusal_number {
     NADRELGOS_FULL = 16,          /* a join of a new MAC, a discover: all k positions are taken. Try again when a board
                                      was dropped. Until then a listed board that has lost its address is not found
                                      either */
-    NADRELGOS_ADDRESS_CLASH = 17, /* a join: the address chosen is listed already. Proved never to be given
-                                     (FitForEver) */
+    /* 17 is retired, and is given to nothing else. It was the address clash: that the address chosen for a new MAC is
+       listed already. That cannot be, since the pool rises strictly, and no call answers it */
 
     /* a turn */
     NADRELGOS_AWAITING_REPLY = 18, /* a wait is on. Call nadrelgos_frame or nadrelgos_quiet first */
@@ -358,7 +358,7 @@ static inline size_t nadrelgos_written(uint64_t answer) { return (size_t)(answer
 /*
  * A board has joined by other means than a discovery, as where the host has set its address itself. It is told as a
  * finished fact. A new MAC gets the lowest free position; a listed one keeps its position and its type, has its session
- * replaced and its misses cleared. The list is then owed to every board. Refused 22, 12 to 17.
+ * replaced and its misses cleared. The list is then owed to every board. Refused 22, 12 to 16.
  */
 static inline uint64_t nadrelgos_join(struct nadrelgos_coordinator *coordinator, struct nadrelgos_node *nodes,
                                       uint8_t kind, uint64_t mac, uint64_t session) {

@@ -32,7 +32,7 @@ static const char *refusal_name(unsigned refusal) {
     static const char *const names[] = {
         "accepted", "short", "over-long", "length mismatch", "bad checksum", "not for us", "not awaited",
         "unexpected type", "bad echo", "bad method", "payload too long", "no room", "bad type", "bad MAC", "busy",
-        "held", "full", "address clash", "awaiting reply", "nobody listed", "not waiting", "bad pool", "state unfit",
+        "held", "full", "retired", "awaiting reply", "nobody listed", "not waiting", "bad pool", "state unfit",
         "not discovering",
     };
     return refusal < sizeof names / sizeof *names ? names[refusal] : "unknown";

@@ -5,7 +5,6 @@ mod cases;
 mod discoveries;
 mod required;
 
-use required::LAST_REFUSAL;
 pub use required::POOL_SIZES;
 
 use crate::counts::Counts;
@@ -130,7 +129,7 @@ impl Coverage {
         let mut text = format!("scripts: {lines} lines, {steps} of them steps, {bytes} bytes\n");
         text.push_str(&self.answers.section("answers"));
         text.push_str("\nrefusals\n");
-        for number in 1..=LAST_REFUSAL {
+        for number in required::numbers() {
             let name = format!("refuse {number}");
             text.push_str(&format!("{:8}  {name}\n", self.refusals.of(&name)));
         }

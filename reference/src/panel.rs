@@ -114,7 +114,7 @@ impl Panel {
         Ok(settings.pool.len())
     }
 
-    /// Join: 22, then 12 to 17.
+    /// Join: 22, then 12 to 16.
     pub fn join(&mut self, node_type: u8, mac: u64, session: u64) -> Answer {
         self.check_fit()?;
         let board = Identity { node_type, mac, session };
@@ -123,7 +123,7 @@ impl Panel {
         Ok(Outcome { joined: position, ..Outcome::rest() })
     }
 
-    /// 12 to 17: the position that a join of this board takes, its own where
+    /// 12 to 16: the position that a join of this board takes, its own where
     /// the MAC is listed, else the lowest free one.
     fn place_for(&self, board: &Identity) -> Result<usize, Refusal> {
         refuse_if(!state::type_fits(board.node_type), Refusal::BadType)?;
@@ -136,12 +136,11 @@ impl Panel {
         }
     }
 
-    /// 16, 17: the lowest free position, freed ones included.
+    /// 16: the lowest free position, freed ones included. No listed board has
+    /// its address, because the pool rises strictly (C-23).
     fn free_position(&self) -> Result<usize, Refusal> {
         let free = self.types().iter().position(|&kind| kind == 0);
-        let position = free.ok_or(Refusal::Full)? + 1;
-        refuse_if(self.address_clash(position), Refusal::AddressClash)?;
-        Ok(position)
+        free.map(|place| place + 1).ok_or(Refusal::Full)
     }
 
     /// The board is listed there, anew or again; the list is owed to all, and
@@ -154,13 +153,6 @@ impl Panel {
         *record = Record { node_type, mac, session, misses: 0, owed: true };
         self.owe_to_all();
         self.coordinator.held = true;
-    }
-
-    /// 17: a listed board has the chosen position's address. With a strictly
-    /// rising pool this cannot be.
-    fn address_clash(&self, chosen: usize) -> bool {
-        let address = self.address(chosen);
-        self.listed().any(|position| self.address(position) == address)
     }
 
     /// 14: a wait, a discovery, or a forward, return or list that is due.
@@ -511,18 +503,6 @@ fn low_byte_first(bytes: &[u8]) -> u64 {
 #[cfg(test)]
 mod tests {
     use super::*;
-
-    /// 17 cannot be given by a step, because a free position's address is
-    /// nobody else's in a rising pool; the rule itself is tried here.
-    #[test]
-    fn the_clash_rule_sees_a_listed_address() {
-        let mut panel = Panel::default();
-        panel.coordinator.pool = vec![5, 5];
-        panel.records[0].node_type = 2;
-        assert!(panel.address_clash(2));
-        panel.coordinator.pool = vec![5, 6];
-        assert!(!panel.address_clash(2));
-    }
 
     #[test]
     fn numbers_go_low_byte_first() {

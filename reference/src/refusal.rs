@@ -18,7 +18,7 @@ pub enum Refusal {
     Busy = 14,
     Held = 15,
     Full = 16,
-    AddressClash = 17,
+    // 17 is retired and given to nothing else (C-23)
     AwaitingReply = 18,
     NobodyListed = 19,
     NotWaiting = 20,

@@ -432,6 +432,22 @@ fn joins_are_refused_by_12_to_16() {
     assert_eq!(panel.join(2, 1, 8).unwrap().joined, 1);
 }
 
+/// C-23: this is why no join asks for it. Every choice of listed positions is
+/// tried, but for the full table.
+#[test]
+fn the_address_taken_for_a_new_mac_is_in_no_listed_record() {
+    for listed in 0..31 {
+        let mut panel = ready(&[2, 5, 9, 16, 254]);
+        for place in (0..5).filter(|place| listed >> place & 1 == 1) {
+            panel.records[place].node_type = 2;
+            panel.records[place].mac = 1 + place as u64;
+        }
+        let others: Vec<u8> = panel.listed().map(|at| panel.address(at)).collect();
+        let joined = panel.join(2, 9, 0).unwrap().joined;
+        assert!(!others.contains(&panel.address(joined)));
+    }
+}
+
 #[test]
 fn joins_are_busy_while_a_forward_or_return_is_due() {
     let mut panel = with_boards(&[2, 5, 9], &[2, 5]);

@@ -2,19 +2,18 @@
 use Prim.Native.Nat.{ℕ}
 use native.Mathlib.Omega.{arith}
 use mathlib.Core.Path.{_≡_, refl, sym, ap, subst}
-use mathlib.Core.Bool.{Bool, true, false, _&&_}
+use mathlib.Core.Bool.{true, false}
 use lib.Dec.{eqb}
 use borrow.Author.Tests.{eq-eqb, ne-eqb}
 use Rattle.ground.proofs.Choices.{not-no}
 use Rattle.refusal.proofs.Rules.{passed, Passed}
 use Rattle.steps.specs.After.{After, refused, rests}
 use Rattle.steps.specs.Start.{startRules, startOf}
-use Rattle.steps.specs.Join.{known, chosen, isClash, joinRules, joinOf}
+use Rattle.steps.specs.Join.{chosen, joinRules, joinOf}
 use Rattle.series.specs.Series.{World, after}
 use Rattle.series.specs.Demand.{Starts, Allowed, TakesJoins, joinWith}
 use Rattle.series.specs.Ours.{ours}
 use Rattle.lasting.proofs.Keeping.{isFit}
-use Rattle.lasting.proofs.Join.{clash-never}
 use Rattle.lasting.proofs.Series.{lasting}
 
 -- every pool and MAC that the rules allow give a fresh start
@@ -23,19 +22,12 @@ unfolding startOf
 starts w addresses subnet internal mac session forty pool ok =
     ap (λ (a : After). a .says) (passed (startRules (w .nodes) addresses mac) (refused (w .coordinator) (w .nodes)) _ (not-no _ (eq-eqb _ _ forty), (not-no _ pool, (not-no _ ok, tt))))
 
--- a join that the rules allow passes each of them: 17 is never given in a fit state
+-- a join that the rules allow passes each of them
 allowed-passes : (w : World) (kind mac : ℕ) → isFit w ≡ true → Allowed w kind mac → Passed (joinRules (w .coordinator) (w .nodes) kind mac)
-allowed-passes w kind mac fit a = (
-  not-no _ fit,
-  (not-no _ (a .kindFits), (not-no _ (a .macFits), (rw (a .rest, a .nothingOwed) refl, (rw (a .notHeld) refl, (full, (clash _ refl, tt)))))),
-)
+allowed-passes w kind mac fit a = (not-no _ fit, (not-no _ (a .kindFits), (not-no _ (a .macFits), (rw (a .rest, a .nothingOwed) refl, (rw (a .notHeld) refl, (full, tt))))))
   where
     full : eqb (chosen (w .nodes) (w .coordinator .setup .k) mac) 0 ≡ false
     full = ne-eqb (chosen (w .nodes) (w .coordinator .setup .k) mac) 0 (λ e. omega (arith, a .place))
-
-    clash : (b : Bool) → (eqb (known (w .nodes) (w .coordinator .setup .k) mac) 0 && isClash (w .coordinator .setup) (w .nodes) (chosen (w .nodes) (w .coordinator .setup .k) mac)) ≡ b → b ≡ false
-    clash true e = absurd (clash-never (w .coordinator) (w .nodes) mac fit full e)
-    clash false e = refl
 
 -- so it is accepted, and names its position
 allowed-taken : (w : World) (kind mac session : ℕ) → isFit w ≡ true → Allowed w kind mac → (ours .step w (joinWith kind mac session) .says ≡ rests) × (ours .step w (joinWith kind mac session) .joined ≡ chosen (w .nodes) (w .coordinator .setup .k) mac)

@@ -13,10 +13,6 @@ pub all-more : (p : ℕ → Bool) (i : ℕ) → all p (i + 1) ≡ (all p i && p 
 unfolding all
 all-more p i = rw add-one
 
-pub some-more : (p : ℕ → Bool) (i : ℕ) → some p (i + 1) ≡ (some p i || p i)
-unfolding some
-some-more p i = rw add-one
-
 pub count-more : (p : ℕ → Bool) (i : ℕ) → count p (i + 1) ≡ count p i + one (p i)
 unfolding count
 count-more p i = rw add-one
@@ -33,19 +29,12 @@ count-le p (suc i) = omega (arith, count-le p i, one-le (p i))
 pub all-step : (p : ℕ → Bool) (i : ℕ) {b r : Bool} → b ≡ all p i → r ≡ p i → (b && r) ≡ all p (i + 1)
 all-step p i hb hr = rw (all-more, ← hb, ← hr)
 
-pub some-step : (p : ℕ → Bool) (i : ℕ) {b r : Bool} → b ≡ some p i → r ≡ p i → (b || r) ≡ some p (i + 1)
-some-step p i hb hr = rw (some-more, ← hb, ← hr)
-
 pub count-step : (p : ℕ → Bool) (i : ℕ) {n r : ℕ} → n ≡ count p i → r ≡ one (p i) → n + r ≡ count p (i + 1)
 count-step p i hn hr = rw (count-more, ← hn, ← hr)
 
 pub all-none : (p : ℕ → Bool) → true ≡ all p 0
 unfolding all
 all-none p = refl
-
-pub some-none : (p : ℕ → Bool) → false ≡ some p 0
-unfolding some
-some-none p = refl
 
 pub count-none : (p : ℕ → Bool) → 0 ≡ count p 0
 unfolding count
@@ -58,14 +47,11 @@ at-end f {x} {i} {n} h a b = h ∙ ap f (let e : i ≡ n = omega arith in e)
 pub all-end : (p : ℕ → Bool) (i n : ℕ) {b : Bool} → b ≡ all p i → i ≤ n → n ≤ i → b ≡ all p n
 all-end p i n h a b = at-end (all p) h a b
 
-pub some-end : (p : ℕ → Bool) (i n : ℕ) {b : Bool} → b ≡ some p i → i ≤ n → n ≤ i → b ≡ some p n
-some-end p i n h a b = at-end (some p) h a b
-
 pub count-end : (p : ℕ → Bool) (i n : ℕ) {b : ℕ} → b ≡ count p i → i ≤ n → n ≤ i → b ≡ count p n
 count-end p i n h a b = at-end (count p) h a b
 
 -- what closes each need of a loop that folds one of the tests
-pub ruleset loops = (needs, all-none, some-none, count-none, all-step, some-step, count-step, all-end, some-end, count-end)
+pub ruleset loops = (needs, all-none, count-none, all-step, count-step, all-end, count-end)
 
 -- what a test of all says at each number
 pub all-at : (p : ℕ → Bool) (n i : ℕ) → all p n ≡ true → i < n → p i ≡ true

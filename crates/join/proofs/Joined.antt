@@ -1,83 +1,34 @@
--- What a join does: 17 is never given; an accepted join lists the board at a position from 1 to k; a board that comes back keeps its position and type (01, "Join").
-use Prim.Native.Nat.{ℕ, _<_, min}
+-- What a join does: the address of a newcomer is nobody's; an accepted join lists the board at a position from 1 to k; a board that comes back keeps its position and type (01, "Join").
+use Prim.Native.Nat.{ℕ, _<_}
 use native.Mathlib.Omega.{arith}
-use mathlib.Core.Path.{_≡_, refl, sym, ap, _∙_}
-use mathlib.Core.Logic.{_⊎_, inl, inr}
-use mathlib.Core.Bool.{Bool, true, false, _&&_, not, false≢true}
-use mathlib.Core.List.{List, [], _∷_}
-use lib.Dec.{eqb}
-use borrow.Author.Tests.{eqb-true, eqb-false, eq-eqb, ne-eqb, not-false}
-use Rattle.ground.specs.Choose.{choose}
-use Rattle.ground.proofs.Choices.{both, not-left, not-right}
-use Rattle.ground.proofs.Loops.{some-no}
-use Rattle.ground.proofs.Firsts.{FirstCase}
-use Rattle.refusal.specs.Refusal.{Told, ruled, refuses}
-use Rattle.refusal.specs.declared.Refusal.the-variants.{StateUnfit, BadType, BadMac, Busy, Held, Full, AddressClash}
+use mathlib.Core.Path.{_≡_, sym, ap, _∙_}
+use mathlib.Core.Bool.{true}
+use mathlib.Core.List.{List}
+use borrow.Author.Tests.{eqb-false, eq-eqb, not-false}
+use Rattle.ground.proofs.Choices.{both}
 use Rattle.refusal.proofs.Rules.{Passed}
 use Rattle.board.specs.declared.Node.{Node}
-use Rattle.board.specs.declared.Wanted.the-variants.{Mac, Free}
+use Rattle.board.specs.declared.Wanted.the-variants.{Mac}
 use Rattle.board.specs.Node.{isListed, isKind}
 use Rattle.board.specs.Table.{at, listedAt}
-use Rattle.board.specs.Wanted.{wantedAt, lowestOf}
 use Rattle.board.specs.Change.{heard, renewed, owe}
 use Rattle.board.proofs.Changes.{at-put, at-owe-all}
-use Rattle.board.proofs.LowestWanted.{lowest-case, lowest-found}
+use Rattle.board.proofs.LowestWanted.{lowest-found}
 use Rattle.setup.specs.Setup.{address}
 use Rattle.setup.specs.Fitness.{Position, Listed}
-use Rattle.setup.proofs.Addresses.{address-zero}
-use Rattle.setup.proofs.Apart.{one-answers, address-from, free-apart}
+use Rattle.setup.proofs.Apart.{one-answers, newcomer-apart}
 use Rattle.coordinator.specs.declared.Coordinator.{Coordinator}
 use Rattle.coordinator.specs.Fit.{fits}
 use Rattle.coordinator.specs.Fitness.{Fit}
 use Rattle.coordinator.proofs.Fitting.{listed-told, listed-passes, fit-told}
 use Rattle.steps.specs.After.{After, rests}
-use Rattle.steps.specs.Join.{known, chosen, isClash, joining, joinRules, joinedAs, joinOf}
-use Rattle.steps.proofs.Chosen.{by-known, chosen-known, chosen-new, chosen-within, known-listed, known-mac, joining-known, joining-listed, joining-mac}
-use Rattle.join.proofs.Verdict.{join-passed, join-says, join-accepted}
+use Rattle.steps.specs.Join.{known, chosen, joining, joinRules, joinedAs, joinOf}
+use Rattle.steps.proofs.Chosen.{chosen-known, chosen-new, chosen-within, known-listed, known-mac, joining-known, joining-listed, joining-mac}
+use Rattle.join.proofs.Verdict.{join-passed, join-accepted}
 
--- 17 is never given
-
-module _ (c : Coordinator) (t : List Node) (fit : Fit c t) where
-  -- nobody listed has the address of position 0, or of a free one
-  no-clash : (p : ℕ) → (p ≡ 0) ⊎ (Position (c .setup .k) p × (at t p .kind ≡ 0)) → isClash (c .setup) t p ≡ false
-  no-clash p n = some-no _ 41 (λ q l. each q (listedAt t q) refl)
-    where
-      apart : (q : ℕ) → Listed t q → (p ≡ 0) ⊎ (Position (c .setup .k) p × (at t p .kind ≡ 0)) → address (c .setup) q ≡ address (c .setup) p → ⊥
-      apart q l (inl z) e = omega (arith, address-from (c .setup) (fit .setup) q (fit .table .within q l), e ∙ address-zero (c .setup) p (omega arith))
-      apart q l (inr (position, free)) e = free-apart (c .setup) (fit .setup) t (fit .table) p q position free l (sym e)
-
-      each : (q : ℕ) (b : Bool) → listedAt t q ≡ b → (listedAt t q && eqb (address (c .setup) q) (address (c .setup) p)) ≡ false
-      each q false e = not-left (listedAt t q) _ e
-      each q true e = not-right (listedAt t q) _ (ne-eqb (address (c .setup) q) (address (c .setup) p) (apart q (listed-told t q e) n))
-
-  -- its test fails where coordinator and table are fit
-  pub clash-never : (mac : ℕ) → (eqb (known t (c .setup .k) mac) 0 && isClash (c .setup) t (chosen t (c .setup .k) mac)) ≡ false
-  clash-never mac = by-known t (c .setup .k) mac _ (λ l. not-left _ _ (ne-eqb (known t (c .setup .k) mac) 0 (λ z. omega arith))) (λ l. not-right (eqb (known t (c .setup .k) mac) 0) _ (ap (isClash (c .setup) t) (chosen-new t (c .setup .k) mac l) ∙ no-clash (lowestOf t Free (c .setup .k)) (free (lowest-case t Free (c .setup .k)))))
-    where
-      twice : (b : Bool) → not (not b) ≡ true → b ≡ true
-      twice true h = refl
-      twice false h = h
-
-      free : FirstCase 0 (wantedAt Free t) 1 (min (c .setup .k) 40) (lowestOf t Free (c .setup .k)) → (lowestOf t Free (c .setup .k) ≡ 0) ⊎ (Position (c .setup .k) (lowestOf t Free (c .setup .k)) × (at t (lowestOf t Free (c .setup .k)) .kind ≡ 0))
-      free (inl (none, zeroed)) = inl zeroed
-      free (inr f) = inr (record { from = f .from; upTo = omega (arith, f .within) }, eqb-true (at t (lowestOf t Free (c .setup .k)) .kind) 0 (twice _ (f .passes)))
-
--- the rules of a join where the last does not hold unless the first does
-not-seventeen : (a b d e f g z : Bool) → (a ≡ false → z ≡ false) → ruled ((a, StateUnfit) ∷ (b, BadType) ∷ (d, BadMac) ∷ (e, Busy) ∷ (f, Held) ∷ (g, Full) ∷ (z, AddressClash) ∷ []) refuses rests .number ≡ 17 → ⊥
-unfolding choose
-not-seventeen true b d e f g z k h = omega arith
-not-seventeen false true d e f g z k h = omega arith
-not-seventeen false false true e f g z k h = omega arith
-not-seventeen false false false true f g z k h = omega arith
-not-seventeen false false false false true g z k h = omega arith
-not-seventeen false false false false false true z k h = omega arith
-not-seventeen false false false false false false true k h = false≢true (sym (k refl))
-not-seventeen false false false false false false false k h = omega arith
-
--- so no join is ever refused with 17, whatever is lent
-pub never-seventeen : (c : Coordinator) (t : List Node) (kind mac session : ℕ) → joinOf c t kind mac session .says ≡ refuses AddressClash → ⊥
-never-seventeen c t kind mac session e =
-    not-seventeen _ _ _ _ _ _ _ (λ h. clash-never c t (fit-told c t (not-false (fits c t) h)) mac) (ap (λ (s : Told). s .number) (sym (join-says c t kind mac session) ∙ e))
+-- where all is fit, the address chosen for a MAC that nobody has is no listed board's: the test that number 17 was for never holds (02, C-23)
+pub chosen-apart : (c : Coordinator) (t : List Node) → Fit c t → (mac : ℕ) → known t (c .setup .k) mac ≡ 0 → (q : ℕ) → Listed t q → address (c .setup) (chosen t (c .setup .k) mac) ≡ address (c .setup) q → ⊥
+chosen-apart c t fit mac new = rw (chosen-new t (c .setup .k) mac (omega arith)) (newcomer-apart (c .setup) (fit .setup) t (fit .table))
 
 -- an accepted join lists the board
 

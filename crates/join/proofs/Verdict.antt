@@ -26,7 +26,7 @@ module _ (c : Coordinator) (t : List Node) (kind mac session : ℕ) where
   join-refused q e = rule-refused (joinRules c t kind mac) [] (refused c t) (joinedAs c t kind mac session) q (sym e)
 
   -- what a join says is the verdict of the rules
-  pub join-says : joinOf c t kind mac session .says ≡ ruled (joinRules c t kind mac) refuses rests
+  join-says : joinOf c t kind mac session .says ≡ ruled (joinRules c t kind mac) refuses rests
   unfolding joinOf
   join-says = ruled-through (λ (a : After). a .says) (joinRules c t kind mac) (refused c t) (joinedAs c t kind mac session)
 

@@ -6,18 +6,15 @@ use coordinator::Coordinator;
 use coordinator::Phase;
 use refusal::Refusal;
 use setup::Judged;
-use setup::Setup;
 use steps::Stepped;
 ghost use mathlib.Core.Path.{_≡_};
-ghost use mathlib.Core.Bool.{_&&_};
 ghost use mathlib.Core.List.{[]};
-ghost use lib.Dec.{eqb};
 ghost use lib.ListN.{drop};
 ghost use Rattle.refusal.specs.Refusal.{ruled, refuses, gives};
-ghost use Rattle.board.specs.Node.{isListed, isKind};
+ghost use Rattle.board.specs.Node.{isKind};
 ghost use Rattle.setup.specs.Setup.{toldOf};
 ghost use Rattle.steps.specs.After.{shown, shows};
-ghost use Rattle.steps.specs.Join.{isResting, isBusy, known, chosen, isClash, joinRules, joining, joinOf};
+ghost use Rattle.steps.specs.Join.{isResting, isBusy, known, chosen, joinRules, joining, joinOf};
 
 // A board's type is neither 0 nor the coordinator's.
 fn is_kind(kind: u8) -> bool
@@ -73,46 +70,7 @@ fn chosen(table: Table, k: usize, mac: u64) -> usize
     }
 }
 
-// A record is a listed board's, and its own address is the one asked for.
-fn holds_address(node: Node, own: u8, address: u8) -> bool
-    ensures { λ r. ⌜ r ≡ (isListed node && eqb own address) ⌝ }
-{
-    (node.kind != 0) & (own == address)
-}
-
-// Some listed board has the address of a position.
-fn is_clash(setup: Setup, table: Table, position: usize) -> bool
-    ensures { λ r. ⌜ r ≡ isClash setup (table .nodes) position ⌝ }
-{
-    let address = setup::address_at(setup, position);
-    let mut clash = false;
-    let mut p: usize = 1;
-    while p < 41 {
-        let i = p - 1;
-        clash = clash | holds_address(table.nodes[i], setup::address_at(setup, p), address);
-        p += 1;
-    }
-    clash
-}
-
-// The last of the rules, on the position for the MAC: 16, 17. They do not ask for the type, which is 0 here. Where all
-// is fit the address of a free position is no listed board's, so 17 is never given; the rules ask for its test.
-fn judge_position(coordinator: Coordinator, table: Table, mac: u64) -> Judged
-    ensures { λ r. ⌜ toldOf r ≡ ruled (drop 5 (joinRules coordinator (table .nodes) 0 mac)) refuses (gives []) ⌝ }
-{
-    let setup = coordinator.setup;
-    let k = setup.k;
-    let position = chosen(table, k, mac);
-    if position == 0 {
-        return Judged::Refused(Refusal::Full);
-    }
-    if (known(table, k, mac) == 0) & is_clash(setup, table, position) {
-        return Judged::Refused(Refusal::AddressClash);
-    }
-    Judged::Fine
-}
-
-// The rules on what the panel is about, and those that follow: 14, 15, then 16 and 17. They do not ask for the type either.
+// The rules on what the panel is about and on the position for the MAC: 14 to 16. They do not ask for the type, which is 0 here.
 fn judge_moment(coordinator: Coordinator, table: Table, mac: u64) -> Judged
     ensures { λ r. ⌜ toldOf r ≡ ruled (drop 3 (joinRules coordinator (table .nodes) 0 mac)) refuses (gives []) ⌝ }
 {
@@ -122,10 +80,14 @@ fn judge_moment(coordinator: Coordinator, table: Table, mac: u64) -> Judged
     if coordinator.held == 1 {
         return Judged::Refused(Refusal::Held);
     }
-    judge_position(coordinator, table, mac)
+    let setup = coordinator.setup;
+    if chosen(table, setup.k, mac) == 0 {
+        return Judged::Refused(Refusal::Full);
+    }
+    Judged::Fine
 }
 
-// What a join is refused for, in the order of the numbers: 22, then 12 to 17.
+// What a join is refused for, in the order of the numbers: 22, then 12 to 16.
 fn judge_join(coordinator: Coordinator, table: Table, kind: u8, mac: u64) -> Judged
     ensures { λ r. ⌜ toldOf r ≡ ruled (joinRules coordinator (table .nodes) kind mac) refuses (gives []) ⌝ }
 {

@@ -1,18 +1,16 @@
 -- A join keeps fit.
 use Prim.Native.Nat.{ℕ, _≤_}
 use mathlib.Core.Path.{_≡_, refl, sym, _∙_}
-use mathlib.Core.Bool.{Bool, true, false, _&&_, _||_, not, false≢true}
+use mathlib.Core.Bool.{Bool, true, false, _||_, not, false≢true}
 use mathlib.Core.List.{List}
 use native.Mathlib.Omega.{arith}
-use lib.ListN.{length}
+use lib.ListN.{length, drop}
 use lib.Dec.{ltb, eqb}
-use borrow.Author.Tests.{ltb-true, ltb-false, eqb-true, eqb-false, eq-eqb, ne-eqb, not-true, not-false}
+use borrow.Author.Tests.{ltb-true, ltb-false, eqb-false, eq-eqb, not-true, not-false}
 use Rattle.ground.specs.Choose.{choose}
 use Rattle.ground.proofs.Choices.{and-left, and-right, both}
-use Rattle.ground.proofs.Loops.{some-no}
 use Rattle.refusal.specs.declared.Refusal.{Refusal}
-use Rattle.refusal.specs.declared.Refusal.the-variants.{BadType, BadMac, Busy, Held, Full, AddressClash}
-use Rattle.refusal.proofs.Rules.{Passed, Each, each, by-rules}
+use Rattle.refusal.proofs.Rules.{Passed, each, by-rules}
 use Rattle.board.specs.declared.Node.{Node}
 use Rattle.board.specs.declared.Wanted.the-variants.{Mac, Free}
 use Rattle.board.specs.Node.{isKind, isMac}
@@ -22,8 +20,6 @@ use Rattle.board.specs.Change.{joinedNode, heard, renewed, oweAll}
 use Rattle.board.proofs.LowestWanted.{lowest-found}
 use Rattle.board.proofs.Changes.{owe-all-listed}
 use Rattle.setup.specs.Fitness.{Position, Listed, InRanges, FitTable}
-use Rattle.setup.specs.Setup.{address}
-use Rattle.setup.proofs.Apart.{free-apart}
 use Rattle.setup.proofs.Places.{FreePlace, free-found}
 use Rattle.setup.proofs.Pools.{mac-told}
 use Rattle.setup.proofs.Tables.{table-passes}
@@ -36,10 +32,10 @@ use Rattle.coordinator.specs.Fit.{phaseFits, holdFits, fits}
 use Rattle.coordinator.specs.Change.{holding}
 use Rattle.coordinator.proofs.Fitting.{listed-told, listed-passes, listed-some, fits-of, fits-setup, fits-seek, fits-searched, fits-last, fit-told}
 use Rattle.steps.specs.After.{After, refused}
-use Rattle.steps.specs.Join.{isResting, known, chosen, isClash, joining, joinRules, joinOf}
+use Rattle.steps.specs.Join.{isResting, known, chosen, joining, joinRules, joinOf}
 use Rattle.steps.proofs.Chosen.{known-listed}
 use Rattle.lasting.proofs.Tables.{Follows, renewed-follows, put-fit, put-listed, join-fit, join-listed, owe-all-fit}
-use Rattle.lasting.proofs.Keeps.{Keeps, accepted-keeps, refused-keeps, never-keeps, unfit-keeps, some-same, table-fit}
+use Rattle.lasting.proofs.Keeps.{Keeps, accepted-keeps, rules-keep, some-same, table-fit}
 
 -- a MAC that is not known is nobody's
 pub nobody-has : (t : List Node) (k mac : ℕ) → k ≤ 40 → FitTable k t → ltb 0 (known t k mac) ≡ false → (q : ℕ) → Listed t q → at t q .mac ≡ mac → ⊥
@@ -118,37 +114,12 @@ pub idle : (a b : Bool) → (not a || b) ≡ false → a ≡ true
 idle true b e = refl
 idle false b e = sym e
 
--- 17 is not given: the address of a free position is nobody's
-pub clash-never : (c : Coordinator) (t : List Node) (mac : ℕ) → fits c t ≡ true → eqb (chosen t (c .setup .k) mac) 0 ≡ false → (eqb (known t (c .setup .k) mac) 0 && isClash (c .setup) t (chosen t (c .setup .k) mac)) ≡ true → ⊥
-unfolding choose
-clash-never c t mac h full e = go (ltb 0 (known t (c .setup .k) mac)) refl full (and-right (eqb (known t (c .setup .k) mac) 0) (isClash (c .setup) t (chosen t (c .setup .k) mac)) e)
-  where
-    unknown : known t (c .setup .k) mac ≡ 0
-    unknown = eqb-true (known t (c .setup .k) mac) 0 (and-left (eqb (known t (c .setup .k) mac) 0) (isClash (c .setup) t (chosen t (c .setup .k) mac)) e)
-
-    free : FreePlace t (c .setup .k) (lowestOf t Free (c .setup .k)) → isClash (c .setup) t (lowestOf t Free (c .setup .k)) ≡ false
-    free p = some-no _ 41 (λ q l. nobody q (listedAt t q) refl)
-      where
-        nobody : (q : ℕ) (b : Bool) → listedAt t q ≡ b → (b && eqb (address (c .setup) q) (address (c .setup) (lowestOf t Free (c .setup .k)))) ≡ false
-        nobody q true l = ne-eqb _ _ (λ s. free-apart (c .setup) (fit-told c t h .setup) t (table-fit c t h) (lowestOf t Free (c .setup .k)) q (p .place) (p .free) (listed-told t q l) (sym s))
-        nobody q false l = refl
-
-    go : (b : Bool) → ltb 0 (known t (c .setup .k) mac) ≡ b → eqb (choose b (known t (c .setup .k) mac) (lowestOf t Free (c .setup .k))) 0 ≡ false → isClash (c .setup) t (choose b (known t (c .setup .k) mac) (lowestOf t Free (c .setup .k))) ≡ true → ⊥
-    go true l r s = omega (arith, unknown, ltb-true 0 (known t (c .setup .k) mac) l)
-    go false l r s = false≢true (sym (free (free-found t (c .setup .k) (eqb-false (lowestOf t Free (c .setup .k)) 0 r))) ∙ s)
-
 pub join-keeps : (c : Coordinator) (t : List Node) (kind mac session : ℕ) → Keeps c t (joinOf c t kind mac session)
 unfolding joinOf
-join-keeps c t kind mac session = by-rules (Keeps c t) (joinRules c t kind mac) (refused c t) _ refusals (λ passed. accepted-keeps c t _ (joined passed) refl refl)
+join-keeps c t kind mac session = rules-keep c t (drop 1 (joinRules c t kind mac)) refl _ (λ h passed. accepted-keeps c t _ (joined h passed) refl refl)
   where
-    joined : Passed (joinRules c t kind mac) → fits (holding c true) (oweAll (put t (chosen t (c .setup .k) mac) (joining t (c .setup .k) kind mac session))) ≡ true
-    joined passed = joined-fits c t h (idle (isResting (phaseOf (c .stand))) _ (passed .1 .1 .1 .0)) _ _ (placed c t h kind mac session (not-false _ (passed .1 .0)) (not-false _ (passed .1 .1 .0)) (passed .1 .1 .1 .1 .1 .0))
-      where
-        h : fits c t ≡ true
-        h = not-false (fits c t) (passed .0)
-
-    refusals : Each (λ r. Keeps c t (refused c t r)) (joinRules c t kind mac)
-    refusals = (unfit-keeps c t, λ _. ((λ _. refused-keeps c t BadType refl), λ _. ((λ _. refused-keeps c t BadMac refl), λ _. ((λ _. refused-keeps c t Busy refl), λ _. ((λ _. refused-keeps c t Held refl), λ _. ((λ _. refused-keeps c t Full refl), λ full. ((λ e. never-keeps c t AddressClash (λ h. clash-never c t mac h full e)), λ _. tt)))))))
+    joined : fits c t ≡ true → Passed (drop 1 (joinRules c t kind mac)) → fits (holding c true) (oweAll (put t (chosen t (c .setup .k) mac) (joining t (c .setup .k) kind mac session))) ≡ true
+    joined h passed = joined-fits c t h (idle (isResting (phaseOf (c .stand))) _ (passed .1 .1 .0)) _ _ (placed c t h kind mac session (not-false _ (passed .0)) (not-false _ (passed .1 .0)) (passed .1 .1 .1 .1 .0))
 
 -- who joined is within the ranges, at a position from 1 to k
 pub record Joined (c : Coordinator) (kind mac p : ℕ) : Type 0 where

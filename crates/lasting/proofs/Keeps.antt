@@ -31,9 +31,9 @@ use Rattle.steps.specs.After.{After, refused}
 use Rattle.series.specs.Series.{isAccepted}
 use Rattle.lasting.proofs.Tables.{Follows, put-fit, put-listed, owe-all-fit}
 
--- a number that a panel in a fit state may give: neither 22 nor 17
+-- a number that a panel in a fit state may give: any but 22
 abbrev pub usual : ℕ → Bool
-usual n = not (eqb n 22) && not (eqb n 17)
+usual n = not (eqb n 22)
 
 -- a refusal's outcome: coordinator and records as they were, nothing written, nobody joined or dropped (00, demand 1)
 pub record AsItWas (c : Coordinator) (t : List Node) (a : After) : Type 0 where
@@ -43,7 +43,7 @@ pub record AsItWas (c : Coordinator) (t : List Node) (a : After) : Type 0 where
   pub joined : a .joined ≡ 0
   pub dropped : a .dropped ≡ 0
 
--- a step keeps fit what was fit, and the setup; in a fit state it gives neither 22 nor 17; and where it refuses all is as it was
+-- a step keeps fit what was fit, and the setup; in a fit state it does not give 22; and where it refuses all is as it was
 pub record Keeps (c : Coordinator) (t : List Node) (a : After) : Type 0 where
   pub fit : fits c t ≡ true → fits (a .coordinator) (a .nodes) ≡ true
   pub setup : a .coordinator .setup ≡ c .setup
@@ -65,14 +65,11 @@ module _ (c : Coordinator) (t : List Node) where
   pub refused-keeps : (r : Refusal) → usual (numberOf r) ≡ true → Keeps c t (refused c t r)
   refused-keeps r u = refused-saying r (λ h. u)
 
-  -- a number that is not given in a fit state
-  pub never-keeps : (r : Refusal) → (fits c t ≡ true → ⊥) → Keeps c t (refused c t r)
-  never-keeps r n = refused-saying r (λ h. absurd (n h))
+  -- 22 is not given in a fit state
+  unfit-keeps : not (fits c t) ≡ true → Keeps c t (refused c t StateUnfit)
+  unfit-keeps e = refused-saying StateUnfit (λ h. absurd (false≢true (sym (not-true (fits c t) e) ∙ h)))
 
-  pub unfit-keeps : not (fits c t) ≡ true → Keeps c t (refused c t StateUnfit)
-  unfit-keeps e = never-keeps StateUnfit (λ h. false≢true (sym (not-true (fits c t) e) ∙ h))
-
-  -- rules that say neither 22 nor 17
+  -- rules that do not say 22
   abbrev usuals : List (Bool × Refusal) → Bool
   usuals [] = true
   usuals (rule ∷ rules) = usual (numberOf (rule .1)) && usuals rules

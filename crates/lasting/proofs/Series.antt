@@ -2,11 +2,9 @@
 use Prim.Native.Nat.{ℕ, _≤_}
 use native.Mathlib.Decide.{ℕ-discrete}
 use mathlib.Core.Path.{_≡_, refl, sym, ap, _∙_}
-use mathlib.Core.Bool.{true, false, false≢true}
+use mathlib.Core.Bool.{true, false≢true}
 use mathlib.Core.List.{List, [], _∷_}
-use Rattle.refusal.specs.Refusal.{Told, numberOf, refuses}
-use Rattle.refusal.specs.declared.Refusal.{Refusal}
-use Rattle.refusal.specs.declared.Refusal.the-variants.{StateUnfit, AddressClash}
+use Rattle.refusal.specs.Refusal.{Told}
 use Rattle.board.specs.Table.{listedAt}
 use Rattle.setup.specs.declared.Setup.{Setup}
 use Rattle.setup.specs.Setup.{address}
@@ -56,12 +54,9 @@ lasting {w = w} f is =
 pub lasting-fit : {k : ℕ} {w : World} → Fresh ours k w → (is : List Input) → Fit (after ours w is .coordinator) (after ours w is .nodes)
 lasting-fit {w = w} f is = fit-told (after ours w is .coordinator) (after ours w is .nodes) (lasting f is .fit)
 
--- No step of such a series is refused 22, and 17 is never given.
+-- No step of such a series is refused 22.
 pub fit-for-ever : FitForEver ours
-fit-for-ever = record { fit = λ k w f is i e. never f is i StateUnfit refl e; clash = λ k w f is i e. never f is i AddressClash refl e }
-  where
-    never : {k : ℕ} {w : World} → Fresh ours k w → (is : List Input) (i : Input) (r : Refusal) → usual (numberOf r) ≡ false → ours .step (after ours w is) i .says ≡ refuses r → ⊥
-    never {w = w} f is i r u e = false≢true (sym u ∙ ap (λ (says : Told). usual (says .number)) (sym e) ∙ step-keeps (after ours w is) i .says (lasting f is .fit))
+fit-for-ever k w f is i e = false≢true (ap (λ (says : Told). usual (says .number)) (sym e) ∙ step-keeps (after ours w is) i .says (lasting f is .fit))
 
 -- "No two listed boards share an address or a MAC."
 pub no-two-alike : NoTwoAlike ours

@@ -9,12 +9,12 @@ use borrow.Author.Tests.{ltb-true, ltb-false}
 use native.Mathlib.Omega.{arith}
 use Rattle.refusal.specs.Refusal.{numberOf, refuses, Told}
 use Rattle.refusal.specs.declared.Refusal.{Refusal}
-use Rattle.refusal.specs.declared.Refusal.the-variants.{Short, OverLong, LengthMismatch, BadChecksum, NotForUs, NotAwaited, UnexpectedType, BadEcho, BadMethod, PayloadTooLong, NoRoom, BadType, BadMac, Busy, Held, Full, AddressClash, AwaitingReply, NobodyListed, NotWaiting, BadPool, StateUnfit, NotDiscovering}
+use Rattle.refusal.specs.declared.Refusal.the-variants.{Short, OverLong, LengthMismatch, BadChecksum, NotForUs, NotAwaited, UnexpectedType, BadEcho, BadMethod, PayloadTooLong, NoRoom, BadType, BadMac, Busy, Held, Full, AwaitingReply, NobodyListed, NotWaiting, BadPool, StateUnfit, NotDiscovering}
 
--- the refusals in the order of their numbers
+-- the refusals in the order of their numbers; at 17, which is none's, stands the first again
 listed : List Refusal
 listed =
-    Short ∷ OverLong ∷ LengthMismatch ∷ BadChecksum ∷ NotForUs ∷ NotAwaited ∷ UnexpectedType ∷ BadEcho ∷ BadMethod ∷ PayloadTooLong ∷ NoRoom ∷ BadType ∷ BadMac ∷ Busy ∷ Held ∷ Full ∷ AddressClash ∷ AwaitingReply ∷ NobodyListed ∷ NotWaiting ∷ BadPool ∷ StateUnfit ∷ NotDiscovering ∷ []
+    Short ∷ OverLong ∷ LengthMismatch ∷ BadChecksum ∷ NotForUs ∷ NotAwaited ∷ UnexpectedType ∷ BadEcho ∷ BadMethod ∷ PayloadTooLong ∷ NoRoom ∷ BadType ∷ BadMac ∷ Busy ∷ Held ∷ Full ∷ Short ∷ AwaitingReply ∷ NobodyListed ∷ NotWaiting ∷ BadPool ∷ StateUnfit ∷ NotDiscovering ∷ []
 
 -- the refusal that a number names; a number that is none's names the first
 pub refusalOf : ℕ → Refusal
@@ -39,7 +39,6 @@ placed BadMac = refl
 placed Busy = refl
 placed Held = refl
 placed Full = refl
-placed AddressClash = refl
 placed AwaitingReply = refl
 placed NobodyListed = refl
 placed NotWaiting = refl
@@ -58,6 +57,11 @@ named n r h = ap (λ (m : ℕ). numberOf (refusalOf m)) (sym h) ∙ ap numberOf 
 pub not-zero : (r : Refusal) → numberOf r ≡ 0 → ⊥
 unfolding listed refusalOf
 not-zero r h = omega (arith, named 0 r h)
+
+-- nor 17, which is retired: so no answer carries it, whatever is lent (02, C-23)
+pub not-seventeen : (r : Refusal) → numberOf r ≡ 17 → ⊥
+unfolding listed refusalOf
+not-seventeen r h = omega (arith, named 17 r h)
 
 -- nor one past the end of the list, so that a number is a byte
 pub number-byte : (r : Refusal) → numberOf r < 256

@@ -4,9 +4,9 @@ use mathlib.Core.Bool.{Bool}
 use mathlib.Core.List.{List, [], _∷_}
 use Rattle.ground.specs.Choose.{choose}
 use Rattle.refusal.specs.declared.Refusal.{Refusal}
-use Rattle.refusal.specs.declared.Refusal.the-variants.{Short, OverLong, LengthMismatch, BadChecksum, NotForUs, NotAwaited, UnexpectedType, BadEcho, BadMethod, PayloadTooLong, NoRoom, BadType, BadMac, Busy, Held, Full, AddressClash, AwaitingReply, NobodyListed, NotWaiting, BadPool, StateUnfit, NotDiscovering}
+use Rattle.refusal.specs.declared.Refusal.the-variants.{Short, OverLong, LengthMismatch, BadChecksum, NotForUs, NotAwaited, UnexpectedType, BadEcho, BadMethod, PayloadTooLong, NoRoom, BadType, BadMac, Busy, Held, Full, AwaitingReply, NobodyListed, NotWaiting, BadPool, StateUnfit, NotDiscovering}
 
--- the rule book's number of each refusal (01, "Numbers"; 02, C-11)
+-- the rule book's number of each refusal (01, "Numbers"; 02, C-11). 17 is retired and is given to nothing else (02, C-23)
 abbrev pub numberOf : Refusal → ℕ
 numberOf Short = 1
 numberOf OverLong = 2
@@ -24,7 +24,6 @@ numberOf BadMac = 13
 numberOf Busy = 14
 numberOf Held = 15
 numberOf Full = 16
-numberOf AddressClash = 17
 numberOf AwaitingReply = 18
 numberOf NobodyListed = 19
 numberOf NotWaiting = 20

@@ -1,4 +1,4 @@
-// The numbers by which the panel refuses. A refusal is a case; the rule book's number is `number`.
+// The numbers by which the panel refuses. A refusal is a case; the rule book's number is `number`. 17 is retired.
 ghost use mathlib.Core.Path.{_≡_};
 ghost use Rattle.refusal.specs.Refusal.{numberOf};
 
@@ -35,8 +35,6 @@ pub enum Refusal {
     Held,
     // 16: new MAC or discovery, no free position
     Full,
-    // 17: the chosen address is already listed
-    AddressClash,
     // 18: turn during a wait
     AwaitingReply,
     // 19: turn with no board
@@ -72,7 +70,6 @@ pub fn number(refusal: Refusal) -> u8
         Refusal::Busy => 14,
         Refusal::Held => 15,
         Refusal::Full => 16,
-        Refusal::AddressClash => 17,
         Refusal::AwaitingReply => 18,
         Refusal::NobodyListed => 19,
         Refusal::NotWaiting => 20,

@@ -7,7 +7,7 @@ use mathlib.Core.List.{List, []}
 use lib.ListN.{length}
 use Rattle.ground.specs.Below.{among}
 use Rattle.refusal.specs.Refusal.{refuses}
-use Rattle.refusal.specs.declared.Refusal.the-variants.{StateUnfit, AddressClash, NotWaiting}
+use Rattle.refusal.specs.declared.Refusal.the-variants.{StateUnfit, NotWaiting}
 use Rattle.board.specs.Table.{at, listedAt}
 use Rattle.board.specs.declared.Wanted.the-variants.{Owed}
 use Rattle.board.specs.Node.{isKind, isMac}
@@ -43,10 +43,9 @@ pub record NoTwoAlike (P : Panel) : Type 0 where
   pub addresses : (k : ℕ) (w : World) → Fresh P k w → (is : List Input) (p q : ℕ) → listedAt (after P w is .nodes) p ≡ true → listedAt (after P w is .nodes) q ≡ true → address (after P w is .coordinator .setup) p ≡ address (after P w is .coordinator .setup) q → p ≡ q
   pub macs : (k : ℕ) (w : World) → Fresh P k w → (is : List Input) (p q : ℕ) → listedAt (after P w is .nodes) p ≡ true → listedAt (after P w is .nodes) q ≡ true → at (after P w is .nodes) p .mac ≡ at (after P w is .nodes) q .mac → p ≡ q
 
--- No step of such a series is refused 22, and 17 is never given.
-pub record FitForEver (P : Panel) : Type 0 where
-  pub fit : (k : ℕ) (w : World) → Fresh P k w → (is : List Input) (i : Input) → P .step (after P w is) i .says ≡ refuses StateUnfit → ⊥
-  pub clash : (k : ℕ) (w : World) → Fresh P k w → (is : List Input) (i : Input) → P .step (after P w is) i .says ≡ refuses AddressClash → ⊥
+-- No step of such a series is refused 22.
+abbrev pub FitForEver : Panel → Type 0
+FitForEver P = (k : ℕ) (w : World) → Fresh P k w → (is : List Input) (i : Input) → P .step (after P w is) i .says ≡ refuses StateUnfit → ⊥
 
 -- "A board that stays listed is among any k offers made one after another": from any moment of the series on, whatever stands between the offers
 abbrev pub RoundRobin : Panel → Type 0

@@ -8,11 +8,14 @@ use mathlib.Core.List.{List}
 use lib.Dec.{ltb}
 use borrow.Author.Tests.{ltb-true, ltb-false}
 use Rattle.board.specs.declared.Node.{Node}
+use Rattle.board.specs.declared.Wanted.the-variants.{Free}
 use Rattle.board.specs.Table.{at}
+use Rattle.board.specs.Wanted.{lowestOf}
 use Rattle.setup.specs.declared.Setup.{Setup}
 use Rattle.setup.specs.Setup.{address}
 use Rattle.setup.specs.Fitness.{FitSetup, Position, Listed, FitTable}
-use Rattle.setup.proofs.Addresses.{address-in}
+use Rattle.setup.proofs.Addresses.{address-in, address-zero}
+use Rattle.setup.proofs.Places.{free-found}
 
 -- at most one listed position answers to a MAC
 pub one-answers : (k : ℕ) (t : List Node) → FitTable k t → (m p q : ℕ) → Listed t p → Listed t q → at t p .mac ≡ m → at t q .mac ≡ m → p ≡ q
@@ -49,3 +52,12 @@ module _ (s : Setup) (f : FitSetup s) where
     -- the address of a free position is the address of no listed record
     pub free-apart : (p q : ℕ) → Position (s .k) p → at t p .kind ≡ 0 → Listed t q → address s p ≡ address s q → ⊥
     free-apart p q a free l = addresses-apart p q a (g .within q l) (λ e. l (rw (← e) free))
+
+    -- "the address taken for a newcomer is in no listed record, since the pool rises strictly" (02, C-23, which retired number 17, AddressClash).
+    -- A newcomer takes the lowest free position; where none is free that is 0, whose address is nobody's.
+    pub newcomer-apart : (q : ℕ) → Listed t q → address s (lowestOf t Free (s .k)) ≡ address s q → ⊥
+    newcomer-apart q l e = go (ℕ-discrete (lowestOf t Free (s .k)) 0)
+      where
+        go : Dec (lowestOf t Free (s .k) ≡ 0) → ⊥
+        go (yes none) = omega (arith, address-from q (g .within q l), address-zero s (lowestOf t Free (s .k)) (omega arith), e)
+        go (no some) = free-apart (lowestOf t Free (s .k)) q (free-found t (s .k) some .place) (free-found t (s .k) some .free) l e

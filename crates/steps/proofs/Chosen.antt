@@ -20,7 +20,7 @@ use Rattle.steps.specs.Join.{known, chosen, joining}
 
 module _ (t : List Node) (k mac : ℕ) where
   -- what holds where the MAC is listed and where it is new
-  pub by-known {ℓ} : (P : Type ℓ) → (0 < known t k mac → P) → (known t k mac ≤ 0 → P) → P
+  by-known {ℓ} : (P : Type ℓ) → (0 < known t k mac → P) → (known t k mac ≤ 0 → P) → P
   by-known P f g = go (ltb 0 (known t k mac)) refl
     where
       go : (b : Bool) → ltb 0 (known t k mac) ≡ b → P

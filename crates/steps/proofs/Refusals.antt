@@ -1,6 +1,7 @@
 -- Demand 1 over every step: one that refuses leaves coordinator, records and output as they were, and names nobody.
 use Prim.Native.Nat.{ℕ}
-use mathlib.Core.Path.{_≡_, refl, ap}
+use native.Mathlib.Omega.{arith}
+use mathlib.Core.Path.{_≡_, refl, sym, ap, _∙_}
 use mathlib.Core.Logic.{_⊎_, inl, inr}
 use mathlib.Core.Bool.{Bool, true, false}
 use mathlib.Core.List.{List, [], _∷_}
@@ -10,6 +11,7 @@ use Rattle.ground.specs.Bytes.{laid}
 use Rattle.refusal.specs.Refusal.{Told, ruled}
 use Rattle.refusal.specs.declared.Refusal.{Refusal}
 use Rattle.refusal.specs.declared.Refusal.the-variants.{NotWaiting, NotAwaited, NoRoom}
+use Rattle.refusal.proofs.Numbers.{not-seventeen}
 use Rattle.frame.specs.declared.Header.{Header}
 use Rattle.frame.specs.Frame.{headerOf}
 use Rattle.board.specs.declared.Node.{Node}
@@ -168,3 +170,17 @@ refusal-changes-nothing c t event b room n = unchanged c t (stepOf c t event b r
 -- and so does a refused setup
 pub refused-setup-changes-nothing : (c : Coordinator) (t : List Node) (addresses : List ℕ) (subnet internal mac session : ℕ) → (startOf c t addresses subnet internal mac session .says .number ≡ 0 → ⊥) → Unchanged c t (startOf c t addresses subnet internal mac session)
 refused-setup-changes-nothing c t addresses subnet internal mac session n = unchanged c t (startOf c t addresses subnet internal mac session) (plain-start c t addresses subnet internal mac session) n
+
+-- the retired number
+
+unsaid : (c : Coordinator) (t : List Node) (a : After) → Plain c t a → a .says .number ≡ 17 → ⊥
+unsaid c t a (inl e) h = omega (arith, e, h)
+unsaid c t a (inr (r, e)) h = not-seventeen r (ap (λ (x : After). x .says .number) (sym e) ∙ h)
+
+-- no step says 17, whatever is lent (02, C-23)
+pub step-never-seventeen : (c : Coordinator) (t : List Node) (event : Event) (b : List ℕ) (room : ℕ) → stepOf c t event b room .says .number ≡ 17 → ⊥
+step-never-seventeen c t event b room = unsaid c t (stepOf c t event b room) (plain-step c t event b room)
+
+-- and no setup does
+pub setup-never-seventeen : (c : Coordinator) (t : List Node) (addresses : List ℕ) (subnet internal mac session : ℕ) → startOf c t addresses subnet internal mac session .says .number ≡ 17 → ⊥
+setup-never-seventeen c t addresses subnet internal mac session = unsaid c t (startOf c t addresses subnet internal mac session) (plain-start c t addresses subnet internal mac session)

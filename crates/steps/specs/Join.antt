@@ -1,21 +1,18 @@
 -- Join (01, "Join").
 use Prim.Native.Nat.{ℕ}
-use mathlib.Core.Bool.{Bool, true, false, _&&_, _||_, not}
+use mathlib.Core.Bool.{Bool, true, false, _||_, not}
 use mathlib.Core.List.{List, [], _∷_}
 use lib.Dec.{eqb, ltb}
 use Rattle.ground.specs.Choose.{choose}
-use Rattle.ground.specs.Below.{some}
 use Rattle.refusal.specs.Refusal.{ruled}
 use Rattle.refusal.specs.declared.Refusal.{Refusal}
-use Rattle.refusal.specs.declared.Refusal.the-variants.{StateUnfit, BadType, BadMac, Busy, Held, Full, AddressClash}
+use Rattle.refusal.specs.declared.Refusal.the-variants.{StateUnfit, BadType, BadMac, Busy, Held, Full}
 use Rattle.board.specs.declared.Node.{Node}
 use Rattle.board.specs.declared.Wanted.the-variants.{Owed, Mac, Free}
 use Rattle.board.specs.Node.{isKind, isMac}
-use Rattle.board.specs.Table.{at, put, listedAt}
+use Rattle.board.specs.Table.{at, put}
 use Rattle.board.specs.Wanted.{lowestOf}
 use Rattle.board.specs.Change.{joinedNode, heard, renewed, oweAll}
-use Rattle.setup.specs.declared.Setup.{Setup}
-use Rattle.setup.specs.Setup.{address}
 use Rattle.coordinator.specs.declared.Coordinator.{Coordinator}
 use Rattle.coordinator.specs.declared.Phase.{Phase}
 use Rattle.coordinator.specs.declared.Phase.the-variants.{Resting, Awaiting, ForwardDue, ReturnDue, Seeking, Unknown}
@@ -41,15 +38,11 @@ known t k mac = lowestOf t (Mac mac) k
 abbrev pub chosen : List Node → ℕ → ℕ → ℕ
 chosen t k mac = choose (ltb 0 (known t k mac)) (known t k mac) (lowestOf t Free k)
 
--- some listed board has the address of position p (01, number 17)
-abbrev pub isClash : Setup → List Node → ℕ → Bool
-isClash s t p = some (λ q. listedAt t q && eqb (address s q) (address s p)) 41
-
 -- a wait, a forward, return or list due, or an exchange by which a board joins (01, number 14; 02, C-11)
 abbrev pub isBusy : Coordinator → List Node → Bool
 isBusy c t = not (isResting (phaseOf (c .stand))) || ltb 0 (lowestOf t Owed (c .setup .k))
 
--- when a join is refused, in the order of the numbers: 22, then 12 to 17 (01, "Numbers" and "Order")
+-- when a join is refused, in the order of the numbers: 22, then 12 to 16 (01, "Numbers" and "Order"; 02, C-23)
 abbrev pub joinRules : Coordinator → List Node → ℕ → ℕ → List (Bool × Refusal)
 joinRules c t kind mac =
     (not (fits c t), StateUnfit) ∷
@@ -57,8 +50,7 @@ joinRules c t kind mac =
     (not (isMac mac), BadMac) ∷
     (isBusy c t, Busy) ∷
     (eqb (c .held) 1, Held) ∷
-    (eqb (chosen t (c .setup .k) mac) 0, Full) ∷
-    (eqb (known t (c .setup .k) mac) 0 && isClash (c .setup) t (chosen t (c .setup .k) mac), AddressClash) ∷ []
+    (eqb (chosen t (c .setup .k) mac) 0, Full) ∷ []
 
 -- the record of the board that joins: a new one, or the listed one with its session replaced and misses 0, its type as on record (01, "Join")
 abbrev pub joining : List Node → ℕ → ℕ → ℕ → ℕ → Node

@@ -74,7 +74,7 @@ lists-twice-refuted = alike from-two joinsAgain 1 2 7 refl refl refl refl refl
 
 pub lists-twice-unfit : FitForEver listsTwice → ⊥
 unfolding opened
-lists-twice-unfit s = s .fit 2 (begun two) from-two joinsAgain turn refl
+lists-twice-unfit s = s 2 (begun two) from-two joinsAgain turn refl
 
 -- a board that is found joins by its answer to the discovery, and again by its Set Address Response
 pub joins-twice-refuted : OneJoin joinsTwice → ⊥

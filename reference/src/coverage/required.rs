@@ -6,9 +6,6 @@ use crate::line::Kind;
 /// ones by turns, so that a setup has old records to clear.
 pub const POOL_SIZES: [usize; 7] = [3, 40, 1, 15, 2, 39, 8];
 
-/// The highest number that a step gives.
-pub const LAST_REFUSAL: u8 = 23;
-
 const WAITS: [&str; 4] = ["offer", "list", "forward", "return"];
 /// The waits of a discovery.
 const SEEKING: [&str; 3] = ["search", "identify", "assign"];
@@ -22,9 +19,8 @@ const STAGE_DUES: [&str; 2] = ["identify due", "assign due"];
 const DROPS: [&str; 3] = ["offer", "list", "forward"];
 
 /// What no script can meet, and why.
-pub const IMPOSSIBLE: [(&str, &str); 3] = [
+pub const IMPOSSIBLE: [(&str, &str); 2] = [
     ("refuse 10", "the panel never writes over 240: what it reads is refused by 2 before"),
-    ("refuse 17", "the chosen position is free and the pool's addresses all differ"),
     ("a drop after a return", "its board was heard in the request, and this is its first miss"),
 ];
 
@@ -55,9 +51,14 @@ pub fn answers() -> Vec<String> {
     ])
 }
 
+/// The numbers that there are; 17 is retired (C-23).
+pub fn numbers() -> impl Iterator<Item = u8> {
+    (1..=16).chain(18..=23)
+}
+
 pub fn refusals() -> Vec<String> {
-    let numbers = (1..=LAST_REFUSAL).map(|number| format!("refuse {number}"));
-    numbers.filter(|name| IMPOSSIBLE.iter().all(|(other, _)| other != name)).collect()
+    let names = numbers().map(|number| format!("refuse {number}"));
+    names.filter(|name| IMPOSSIBLE.iter().all(|(other, _)| other != name)).collect()
 }
 
 /// Each step with each of its answers, by exchange where there is one.
