@@ -257,13 +257,7 @@ struct ct_answer ct_join(ct_coordinator *c, ct_node *nodes, size_t nodes_count, 
     }
     size_t position = known ? known : open;
     if (position == 0) return refuse(NADRELGOS_FULL);
-    ct_node *n = &nodes[position - 1];
-    if (known) {
-        n->session = session;
-        n->misses = 0;
-    } else {
-        *n = (ct_node){.kind = kind, .mac = mac, .session = session};
-    }
+    nodes[position - 1] = (ct_node){.kind = kind, .mac = mac, .session = session};
     owe_all(nodes);
     c->held = 1;
     struct ct_answer answer = does(NADRELGOS_REST, 0);

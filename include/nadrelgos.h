@@ -61,10 +61,11 @@
  *                a join of his would be taken and give him that very position. What was found is found again by a
  *                later discovery.
  *     assign     Set Address was sent to what was found. It joins where it answers the same from the new address.
- *   A board that joins in the exchange needs no nadrelgos_join: NADRELGOS_TRANSMIT names its position, the node list is
- *   then owed to every board, and further joins and discoveries are held until the next offer. Every other end breaks
- *   the exchange off, and the same boards are listed as before. Quiet in the exchange is a miss for no board. While it
- *   runs no other join or discovery is taken (14). It has at most six accepted steps.
+ *   A board that joins in the exchange needs no nadrelgos_join: NADRELGOS_TRANSMIT names its position, and its record
+ *   has the type that it gave, also where it was listed before. The node list is then owed to every board, and
+ *   further joins and discoveries are held until the next offer. Every other end breaks the exchange off, and the
+ *   same boards are listed as before. Quiet in the exchange is a miss for no board. While it runs no other join or
+ *   discovery is taken (14). It has at most six accepted steps.
  *
  * HOW LONG TO WAIT
  *   Three seconds in each wait, and three more where an ACK was answered by NADRELGOS_WAIT (Networking Specification,
@@ -357,8 +358,9 @@ static inline size_t nadrelgos_written(uint64_t answer) { return (size_t)(answer
 
 /*
  * A board has joined by other means than a discovery, as where the host has set its address itself. It is told as a
- * finished fact. A new MAC gets the lowest free position; a listed one keeps its position and its type, has its session
- * replaced and its misses cleared. The list is then owed to every board. Refused 22, 12 to 16.
+ * finished fact. A new MAC gets the lowest free position; a listed one keeps its position, has its type and its
+ * session replaced and its misses cleared: lists, indexes and routes follow the new type at once. The list is then
+ * owed to every board. Refused 22, 12 to 16.
  */
 static inline uint64_t nadrelgos_join(struct nadrelgos_coordinator *coordinator, struct nadrelgos_node *nodes,
                                       uint8_t kind, uint64_t mac, uint64_t session) {

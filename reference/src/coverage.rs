@@ -4,6 +4,7 @@
 mod cases;
 mod discoveries;
 mod required;
+mod retypings;
 
 pub use required::POOL_SIZES;
 
@@ -12,6 +13,7 @@ use crate::line::{Kind, Line};
 use crate::panel::Panel;
 use crate::state::Phase;
 use cases::head;
+use retypings::Retypings;
 
 #[derive(Clone, Debug, Default)]
 pub struct Coverage {
@@ -22,6 +24,7 @@ pub struct Coverage {
     dropped: Vec<u64>,
     /// The wait in which a frame was refused for want of room.
     short: Option<Phase>,
+    retypings: Retypings,
     lines: u64,
     steps: u64,
     bytes: u64,
@@ -50,6 +53,9 @@ impl Coverage {
         }
         if line.kind != Kind::Plain {
             self.disturbances.count(cases::disturbance(before, line, &head));
+        }
+        for case in self.retypings.note(before, &line.text, &head, after) {
+            self.cases.count(case);
         }
         self.note_returns(before, &line.text, &head, after);
         self.note_room(before, &head);

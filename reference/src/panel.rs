@@ -143,14 +143,12 @@ impl Panel {
         free.map(|place| place + 1).ok_or(Refusal::Full)
     }
 
-    /// The board is listed there, anew or again; the list is owed to all, and
-    /// further joins are held.
+    /// The board is listed there, anew or again, as what it now says it is: of a
+    /// listed board only MAC and address stay (C-12). The list is owed to all,
+    /// and further joins are held.
     fn admit(&mut self, position: usize, board: &Identity) {
         let Identity { node_type, mac, session } = *board;
-        let record = self.record_mut(position);
-        // a listed MAC: session replaced, misses 0, the type on record stays
-        let node_type = if record.listed() { record.node_type } else { node_type };
-        *record = Record { node_type, mac, session, misses: 0, owed: true };
+        *self.record_mut(position) = Record { node_type, mac, session, misses: 0, owed: true };
         self.owe_to_all();
         self.coordinator.held = true;
     }

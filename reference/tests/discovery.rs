@@ -3,7 +3,7 @@
 
 mod common;
 
-use common::{ack_payload, bytes_of, ready, refused, refused_frame, rest, transmit, turn};
+use common::{ack_payload, bytes_of, goes_to, ready, refused, refused_frame, rest, transmit, turn};
 use common::{MAC, SESSION};
 use reference::frame::{self, Frame};
 use reference::panel::{Action, Answer, Outcome, Panel, Settings};
@@ -183,7 +183,7 @@ fn a_listed_board_comes_back_to_its_own_position() {
     assert_eq!(give(&mut panel, 5, 0xFA, &addressed(5, &found)), joined(2));
     assert_eq!(panel, after_join(&before, &found));
     let record = panel.record(2);
-    assert_eq!((record.node_type, record.session, record.misses), (2, 44, 0));
+    assert_eq!((record.node_type, record.session, record.misses), (9, 44, 0));
 }
 
 #[test]
@@ -225,6 +225,7 @@ fn a_listed_board_that_answers_at_its_address_comes_back() {
         let answer = Identity { node_type: 8, session: 55, ..SECOND };
         assert_eq!(give(&mut panel, 5, 0xFB, &identified(&answer)), joined(2));
         assert_eq!(panel, after_join(&before, &answer));
+        assert_eq!((panel.record(2).node_type, panel.record(2).session), (8, 55));
     }
 }
 
@@ -251,6 +252,95 @@ fn what_is_not_examined_may_be_anything() {
     turn(&mut panel);
     let echo = addressed(9, &NEW);
     assert_eq!(panel.frame(&bytes_of(&odd(9, 0xFA, &echo)), &mut [0; 29]), joined(3));
+}
+
+// ---- a board that is found again as something else (C-12) ---------------
+
+const THERMOSTAT: Identity = Identity { node_type: 1, mac: 110, session: 10 };
+const FURNACE: Identity = Identity { node_type: 2, mac: 111, session: 11 };
+const AIR_HANDLER: Identity = Identity { node_type: 3, mac: 112, session: 12 };
+/// The furnace, re-jumpered.
+const RE_JUMPERED: Identity = Identity { node_type: 3, ..FURNACE };
+
+/// The furnace at position 2 is an air handler now, by the exchange that ends
+/// with this frame; another air handler is above it.
+fn found_re_jumpered(message_type: u8) -> Panel {
+    let mut panel = with(&[THERMOSTAT, FURNACE, AIR_HANDLER]);
+    let payload = match message_type {
+        0xFA => {
+            assert_eq!(assign(&mut panel, &RE_JUMPERED), 2);
+            addressed(5, &RE_JUMPERED)
+        }
+        // found as a furnace still: what it says at its address counts
+        _ => {
+            assert_eq!(identify(&mut panel, &FURNACE), 2);
+            identified(&RE_JUMPERED)
+        }
+    };
+    assert_eq!(give(&mut panel, 5, message_type, &payload), joined(2));
+    panel
+}
+
+#[test]
+fn a_furnace_is_found_again_as_an_air_handler() {
+    let before = with(&[THERMOSTAT, FURNACE, AIR_HANDLER]);
+    assert_eq!((goes_to(&before, 1, 2, 2), goes_to(&before, 1, 2, 3)), (Some(2), Some(3)));
+    assert_eq!(before.index(3), 0);
+    for message_type in [0xFA, 0xFB] {
+        let mut panel = found_re_jumpered(message_type);
+        assert_eq!(panel, after_join(&before, &RE_JUMPERED));
+        assert_eq!((goes_to(&panel, 1, 2, 2), goes_to(&panel, 1, 2, 3)), (None, Some(2)));
+        for (board, index) in [(1, 0), (2, 0), (3, 1)] {
+            let (named, exchange, list) = turn(&mut panel);
+            assert_eq!((named, exchange), (board, Exchange::List));
+            assert_eq!((list[5], &list[10..14]), (index, &[1, 1, 3, 3][..]));
+            assert_eq!(panel.quiet(), rest());
+        }
+    }
+}
+
+/// Until it joins the record counts, and so does its index.
+#[test]
+fn get_node_id_has_the_index_of_the_old_type_and_the_ack_that_of_the_new() {
+    let mut panel = two();
+    let found = Identity { node_type: 5, ..SECOND };
+    assert_eq!(find(&mut panel, &found), rest());
+    assert_eq!(turn(&mut panel).2[..6], [5, 255, 3, 0, 0, 1]);
+    let mut out = [0; 29];
+    assert_eq!(panel.frame(&bytes(5, 0xFB, &identified(&found)), &mut out), joined(2));
+    assert_eq!(out[..6], [5, 255, 3, 0, 0, 0]);
+}
+
+#[test]
+fn types_0_and_165_retype_no_board_that_is_found() {
+    for node_type in [0, 165] {
+        let (before, misfit) = (two(), Identity { node_type, ..SECOND });
+        let mut panel = before.clone();
+        assert_eq!(find(&mut panel, &misfit), rest());
+        assert_eq!(panel, after_nothing(&before));
+
+        let mut panel = before.clone();
+        assert_eq!(identify(&mut panel, &SECOND), 2);
+        assert_eq!(give(&mut panel, 5, 0xFB, &identified(&misfit)), transmit(29));
+        assert_eq!(panel, after_nothing(&before));
+    }
+}
+
+/// What breaks off retypes nobody: nobody answers Set Address, or another board
+/// answers Get Node ID.
+#[test]
+fn a_board_that_is_found_and_does_not_join_keeps_its_type() {
+    let (before, found) = (two(), Identity { node_type: 9, session: 44, ..SECOND });
+    let mut panel = before.clone();
+    assert_eq!(assign(&mut panel, &found), 2);
+    assert_eq!(panel.quiet(), rest());
+    assert_eq!(panel, after_nothing(&before));
+
+    let mut panel = before.clone();
+    assert_eq!(identify(&mut panel, &found), 2);
+    let other = Identity { node_type: 9, ..FIRST };
+    assert_eq!(give(&mut panel, 5, 0xFB, &identified(&other)), transmit(29));
+    assert_eq!(panel, after_nothing(&before));
 }
 
 // ---- every way it breaks off ------------------------------------------

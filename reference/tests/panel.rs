@@ -1,14 +1,15 @@
-//! The rule book's printed series, each refusal number that a step gives, and
-//! the errors that look reasonable (01).
+//! The rule book's printed series, each refusal number that a step gives, the
+//! errors that look reasonable (01), and boards that come back as something else
+//! (C-12).
 
 mod common;
 
-use common::{ack_payload, bytes_of, ready, refused, refused_frame, rest, transmit, turn};
+use common::{ack_payload, bytes_of, goes_to, ready, refused, refused_frame, rest, transmit, turn};
 use common::{MAC, SESSION};
 use reference::frame::{self, Frame};
 use reference::panel::{Action, Answer, Panel, Settings};
 use reference::refusal::Refusal;
-use reference::state::{Exchange, Phase};
+use reference::state::{Exchange, Phase, Record};
 
 /// A panel whose boards have joined, were sent their lists and echoed them.
 fn with_boards(pool: &[u8], types: &[u8]) -> Panel {
@@ -281,13 +282,15 @@ fn an_ack_with_another_session_owes_the_list_to_all() {
 }
 
 #[test]
-fn a_board_that_comes_back_keeps_its_type_and_address() {
-    let mut panel = with_boards(&[2, 5, 9], &[2, 5]);
-    panel.records[1].misses = 2;
-    assert_eq!(panel.join(9, 2, 4711).unwrap().joined, 2);
-    let record = panel.record(2);
-    assert_eq!((record.node_type, record.session, record.misses), (5, 4711, 0));
-    assert!(panel.record(1).owed && panel.record(2).owed && panel.coordinator.held);
+fn a_board_that_comes_back_keeps_its_address_and_has_the_type_it_joins_with() {
+    for node_type in [5, 9] {
+        let mut panel = with_boards(&[2, 5, 9], &[2, 5]);
+        panel.records[1].misses = 2;
+        assert_eq!(panel.join(node_type, 2, 4711).unwrap().joined, 2);
+        let record = Record { node_type, mac: 2, session: 4711, misses: 0, owed: true };
+        assert_eq!(panel.record(2), &record);
+        assert!(panel.record(1).owed && panel.coordinator.held);
+    }
 }
 
 #[test]
@@ -307,6 +310,67 @@ fn the_hold_ends_when_nobody_is_listed() {
     assert_eq!(panel.quiet().unwrap().dropped, 1);
     assert!(!panel.coordinator.held);
     assert_eq!(panel.join(2, 7, 8).unwrap().joined, 1);
+}
+
+// ---- a board that comes back as something else (C-12) ------------------
+
+/// A furnace, a thermostat and an air handler; the furnace was re-jumpered.
+fn re_jumpered() -> Panel {
+    let mut panel = with_boards(&[2, 5, 9], &[2, 1, 3]);
+    assert_eq!(panel.join(3, 1, 101).unwrap().joined, 1);
+    panel
+}
+
+#[test]
+fn a_listed_mac_leaves_the_record_that_a_new_one_would() {
+    let mut new = ready(&[2, 5, 9]);
+    new.join(3, 1, 101).unwrap();
+    assert_eq!(re_jumpered().record(1), new.record(1));
+}
+
+#[test]
+fn every_board_is_told_of_the_new_type_with_its_index_of_now() {
+    let mut panel = re_jumpered();
+    for (board, index) in [(1, 0), (2, 0), (3, 1)] {
+        let (named, exchange, bytes) = turn(&mut panel);
+        assert_eq!((named, exchange), (board, Exchange::List));
+        let list = frame::read(&bytes).unwrap();
+        assert_eq!((list.payload, list.parameter2), (&[1, 3, 1, 3][..], index));
+        let stale = bytes_of(&from_awaited(&panel, 0x94, &[1, 2, 1, 3]));
+        refused_frame(&mut panel, Refusal::BadEcho, &stale);
+        assert_eq!(answer(&mut panel), transmit(29));
+    }
+    assert_eq!(turn(&mut panel).1, Exchange::Offer);
+}
+
+#[test]
+fn requests_by_type_go_where_the_new_types_are() {
+    // by type: for a furnace, for an air handler; by command: heat, cool, fan
+    let asked = [(2, 2), (2, 3), (1, 100), (1, 101), (1, 102)];
+    let found = |panel: &Panel| asked.map(|(method, what)| goes_to(panel, 2, method, what));
+    let before = with_boards(&[2, 5, 9], &[2, 1, 3]);
+    assert_eq!(found(&before), [Some(1), Some(3), Some(1), Some(1), Some(3)]);
+    assert_eq!(found(&re_jumpered()), [None, Some(1), Some(1), None, Some(1)]);
+}
+
+#[test]
+fn a_retyping_moves_the_indexes_above_it_alone() {
+    let indexes = |panel: &Panel| [1, 2, 3, 4, 5].map(|position| panel.index(position));
+    let mut panel = with_boards(&[2, 5, 9, 10, 11], &[3, 2, 2, 3, 2]);
+    assert_eq!(indexes(&panel), [0, 0, 1, 1, 2]);
+    panel.join(3, 2, 102).unwrap();
+    assert_eq!(indexes(&panel), [0, 1, 0, 2, 1]);
+}
+
+#[test]
+fn types_0_and_165_retype_no_listed_board() {
+    for node_type in [0, 165] {
+        let mut panel = with_boards(&[2, 5, 9], &[2, 1, 3]);
+        refused(&mut panel, Refusal::BadType, |panel, _| panel.join(node_type, 1, 7));
+        assert_eq!(panel.join(3, 1, 7).unwrap().joined, 1);
+        // 12 is told before 14 and 15
+        refused(&mut panel, Refusal::BadType, |panel, _| panel.join(node_type, 1, 7));
+    }
 }
 
 // ---- each refusal -----------------------------------------------------

@@ -1,13 +1,16 @@
-//! Demand 3 and what C-11 adds to it, watched from outside: the model below sees
-//! only the lines of a generated script and their answers.
+//! Demand 3 and what C-11 and C-12 add to it, watched from outside: the model
+//! below sees only the lines of a generated script and their answers.
 
 use reference::generator;
+use reference::routing;
 use reference::script::{self, Player};
 
 /// One listed position as seen from outside.
 #[derive(Clone, Copy, Default)]
 struct Seen {
     listed: bool,
+    /// The type that the board's last join told (C-12).
+    node_type: u8,
     mac: u64,
     misses: usize,
     offers: usize,
@@ -20,15 +23,21 @@ const LONGEST_EXCHANGE: usize = 6;
 #[derive(Default)]
 struct Watch {
     k: usize,
+    internal: u8,
     boards: Vec<Seen>,
     awaited: usize,
+    /// Where the request goes that was just taken.
+    asked: Option<usize>,
     heard: bool,
     drops: usize,
     /// The accepted steps of the discovery that runs; 0 if none does.
     exchange: usize,
     identifies: bool,
     started: bool,
+    /// The type that the response to a search told.
+    discovered: u8,
     found: usize,
+    retyped: usize,
 }
 
 impl Watch {
@@ -38,12 +47,16 @@ impl Watch {
         let step = line.split(' ').next().unwrap_or("");
         match (step, &words[..]) {
             (_, ["refuse" | "bad", ..]) | ("table", _) => return,
-            ("setup", ["ready", k]) => return self.start(k.parse().unwrap()),
+            ("setup", ["ready", k]) => return self.start(k.parse().unwrap(), line),
             ("discover", ["wait", _, "search", ..]) => self.discovery(),
             (step, _) if self.exchange > 0 => self.in_exchange(step, line, &words),
-            ("join", ["rest", "joined", at]) => self.joined(at, word(line, 2).parse().unwrap()),
-            ("turn", ["wait", at, kind, ..]) => self.sent(at.parse().unwrap(), kind),
-            ("frame", _) => self.accepted(),
+            ("join", ["rest", "joined", at]) => {
+                self.joined(at, word(line, 1).parse().unwrap(), word(line, 2).parse().unwrap());
+            }
+            ("turn", ["wait", at, kind, _, sent]) => {
+                self.sent(at.parse().unwrap(), kind, &script::pairs(sent).unwrap());
+            }
+            ("frame", _) => self.accepted(line),
             ("quiet", ["rest", "dropped", at]) => self.quiet(at.parse().unwrap()),
             ("quiet", ["rest"]) => self.quiet(0),
             _ => panic!("{line}: {answer}"),
@@ -51,16 +64,28 @@ impl Watch {
         self.count_step();
     }
 
-    fn start(&mut self, k: usize) {
-        let boards = vec![Seen::default(); k + 1];
-        *self = Watch { k, boards, found: self.found, ..Watch::default() };
+    fn start(&mut self, k: usize, line: &str) {
+        let (boards, internal) = (vec![Seen::default(); k + 1], word(line, 2).parse().unwrap());
+        let (found, retyped) = (self.found, self.retyped);
+        *self = Watch { k, internal, boards, found, retyped, ..Watch::default() };
     }
 
-    fn joined(&mut self, at: &str, mac: u64) {
+    fn joined(&mut self, at: &str, node_type: u8, mac: u64) {
         let board = &mut self.boards[at.parse::<usize>().unwrap()];
         let old = if board.listed { *board } else { Seen::default() };
         assert!(!board.listed || board.mac == mac);
-        *board = Seen { listed: true, mac, misses: 0, ..old };
+        self.retyped += usize::from(old.listed && old.node_type != node_type);
+        *board = Seen { listed: true, node_type, mac, misses: 0, ..old };
+    }
+
+    /// The types at positions 1 to k, 0 if free, as the last joins told them.
+    fn types(&self) -> Vec<u8> {
+        self.boards[1..].iter().map(|board| board.node_type).collect()
+    }
+
+    fn index(&self, at: usize) -> usize {
+        let types = self.types();
+        types[..at - 1].iter().filter(|&&kind| kind == types[at - 1]).count()
     }
 
     /// While someone is listed, one at most is started between two offers.
@@ -81,9 +106,13 @@ impl Watch {
                 self.heard = false;
             }
             ("frame", ["wait", _, "identify", "0"]) => self.identity_heard(mac_in(line)),
-            ("frame", ["rest"]) => self.exchange = self.found_exchange(line),
+            ("frame", ["rest"]) => {
+                self.exchange = self.found_exchange(line);
+                self.discovered = payload(line)[0];
+            }
             ("frame", ["transmit", _, _, "joined", at]) => {
-                self.joined(at, mac_in(line));
+                let told = if self.identifies { payload(line)[0] } else { self.discovered };
+                self.joined(at, told, mac_in(line));
                 (self.exchange, self.found) = (0, self.found + 1);
             }
             ("frame", ["transmit", _, _]) => {
@@ -117,9 +146,10 @@ impl Watch {
         }
     }
 
-    fn sent(&mut self, at: usize, kind: &str) {
+    fn sent(&mut self, at: usize, kind: &str, bytes: &[u8]) {
         assert!(self.boards[at].listed);
         (self.awaited, self.heard) = (at, false);
+        self.goes_by_type(at, kind, bytes);
         if kind == "offer" {
             self.started = false;
             for board in &mut self.boards {
@@ -130,9 +160,30 @@ impl Watch {
         }
     }
 
-    fn accepted(&mut self) {
+    /// The list, the indexes and the way of a request are by the types that the
+    /// last joins told.
+    fn goes_by_type(&mut self, at: usize, kind: &str, bytes: &[u8]) {
+        assert_eq!((kind == "forward").then_some(at), self.asked.take());
+        if ["offer", "list"].contains(&kind) {
+            assert_eq!(usize::from(bytes[5]), self.index(at));
+        }
+        if kind == "list" {
+            let types = self.types();
+            let highest = types.iter().rposition(|&kind| kind != 0).unwrap();
+            let list = [&[self.internal][..], &types[..=highest]].concat();
+            assert_eq!(bytes[10..bytes.len() - 2], list);
+        }
+    }
+
+    /// Of what is accepted only a request has a type of 1 to 127.
+    fn accepted(&mut self, line: &str) {
         self.heard = true;
         self.boards[self.awaited].misses = 0;
+        let bytes = script::pairs(word(line, 2)).unwrap();
+        if (1..=127).contains(&bytes[7]) {
+            let to = routing::resolve(&self.types(), bytes[3], bytes[4]);
+            self.asked = to.filter(|&to| to != self.awaited);
+        }
     }
 
     /// A board leaves exactly at the third message in a row unanswered.
@@ -194,6 +245,6 @@ fn generated_scripts_keep_the_promise() {
                 assert!(addresses_and_macs_differ(&player));
             }
         });
-        assert!(drops > 20 && watch.found > 20);
+        assert!(drops > 20 && watch.found > 20 && watch.retyped > 20);
     }
 }

@@ -56,11 +56,9 @@ static void hear(size_t position, uint64_t mac) {
     if (node->kind != 0 && node->mac == mac) node->misses = 0;
 }
 
-/* The board joins: a listed one keeps its type; the list is owed to all, and joins are held. */
+/* The board joins, listed before or not, as what it says it is; the list is owed to all, and joins are held. */
 static void join(size_t position, struct nadrelgos_found who) {
-    struct nadrelgos_node *node = &then.nodes[position - 1];
-    uint8_t kind = node->kind ? node->kind : who.kind;
-    *node = (struct nadrelgos_node){kind, who.mac, who.session, 0, 1};
+    then.nodes[position - 1] = (struct nadrelgos_node){who.kind, who.mac, who.session, 0, 1};
     for (size_t p = 1; p <= K; p++)
         if (then.nodes[p - 1].kind != 0) then.nodes[p - 1].owed = 1;
     then.coordinator.held = 1;

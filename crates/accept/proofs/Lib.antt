@@ -6,3 +6,4 @@ pub mod Acks
 pub mod Assignments
 pub mod Replied
 pub mod Unique
+pub mod Requests

@@ -5,7 +5,7 @@ use Rattle.ground.specs.Choose.{choose}
 use Rattle.board.specs.declared.Node.{Node}
 use Rattle.board.specs.Node.{isListed}
 
--- a new board's record: no misses, and nothing owed yet (01, "Join")
+-- the record of a board that joins: no misses, and nothing owed yet (01, "Join"; 02, C-12)
 abbrev pub joinedNode : ℕ → ℕ → ℕ → Node
 joinedNode kind mac session = record { kind = kind; mac = mac; session = session; misses = 0; owed = 0 }
 
@@ -25,7 +25,7 @@ heard n = record { kind = n .kind; mac = n .mac; session = n .session; misses = 
 abbrev pub missed : Node → Node
 missed n = record { kind = n .kind; mac = n .mac; session = n .session; misses = min (n .misses + 1) 255; owed = n .owed }
 
--- the session replaced (01, "Join" and "Frame")
+-- the session replaced (01, "Frame")
 abbrev pub renewed : Node → ℕ → Node
 renewed n session = record { kind = n .kind; mac = n .mac; session = session; misses = n .misses; owed = n .owed }
 

@@ -85,7 +85,7 @@ pub fn put_at(table: Table, position: usize, node: Node) -> Table
     }
 }
 
-// The record of a board that joins anew. The list is owed to all afterwards, this board included.
+// The record of a board that joins, for the first time or again. The list is owed to all afterwards, this board included.
 pub fn joined_node(kind: u8, mac: u64, session: u64) -> Node
     ensures { λ r. ⌜ r ≡ joinedNode kind mac session ⌝ }
 {

@@ -27,7 +27,7 @@ use Rattle.steps.specs.Step.{stepOf}
 use Rattle.series.specs.Series.{Input, World, isAccepted, waitsIn, isSeek}
 use Rattle.series.specs.Exchange.{Course, isOf, isRunning}
 use Rattle.series.specs.Ours.{ours}
-use Rattle.exchanges.proofs.Taken.{by-accepted}
+use Rattle.lasting.proofs.Taken.{by-accepted}
 use Rattle.exchanges.proofs.Course.{waitOf, stepsOf, Stands, Reach, going, over, joined}
 use Rattle.exchanges.proofs.Going.{busy}
 use Rattle.exchanges.proofs.Rest.{over-rests, joined-rests, runs-no-more}

@@ -34,7 +34,7 @@ use Rattle.steps.specs.Quiet.{quietRules, quietIn}
 use Rattle.steps.specs.Step.{stepOf}
 use Rattle.series.specs.Series.{Input, left, isAccepted, waitsIn}
 use Rattle.series.specs.Exchange.{Course, gone}
-use Rattle.exchanges.proofs.Taken.{never-accepted, by-accepted, by-choice}
+use Rattle.lasting.proofs.Taken.{never-accepted, by-accepted, by-choice}
 use Rattle.exchanges.proofs.Course.{found-takes, waitOf, stepsOf, Stands, Reach, going, over, joined}
 
 -- a part has one accepted step left at least

@@ -1,4 +1,3 @@
-pub mod Taken
 pub mod NotEmpty
 pub mod Memory
 pub mod Seldom

@@ -38,7 +38,7 @@ use Rattle.steps.specs.Receive.{payload, receiveRules, receiveIn, receiveOf, ta
 use Rattle.steps.specs.Quiet.{quietRules, quietIn, quietOf, quietValue}
 use Rattle.series.specs.Series.{isAccepted, offeredTo}
 use Rattle.lasting.proofs.Turn.{next-listed}
-use Rattle.exchanges.proofs.Taken.{by-refusals, by-accepted, by-choice}
+use Rattle.lasting.proofs.Taken.{by-refusals, by-accepted, by-choice}
 
 -- the memory that a discovery was started is as it was
 abbrev pub Remembers : Coordinator → After → Type 0

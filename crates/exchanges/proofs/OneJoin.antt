@@ -43,7 +43,7 @@ use Rattle.series.specs.Ours.{ours}
 use Rattle.lasting.proofs.Keeps.{AsItWas}
 use Rattle.lasting.proofs.Keeping.{isFit, step-fit, step-refused}
 use Rattle.lasting.proofs.Series.{series-fit, lasting}
-use Rattle.exchanges.proofs.Taken.{never-accepted, by-accepted, by-choice}
+use Rattle.lasting.proofs.Taken.{never-accepted, by-accepted, by-choice}
 use Rattle.exchanges.proofs.Course.{found-takes, waitOf, Stands, Reach, going, over, joined}
 use Rattle.exchanges.proofs.Going.{few-steps, busy, step-goes}
 use Rattle.exchanges.proofs.Alone.{alone-while}

@@ -5,10 +5,10 @@ use mathlib.Core.Path.{_≡_, refl, sym, ap, _∙_}
 use mathlib.Core.Logic.{_⊎_, inl, inr}
 use mathlib.Core.Bool.{Bool, true, false, _&&_, false≢true}
 use mathlib.Core.List.{List}
-use lib.Dec.{eqb, leb, ltb}
+use lib.Dec.{leb, ltb}
 use borrow.Author.Tests.{leb-true}
 use Rattle.ground.specs.Choose.{choose}
-use Rattle.ground.proofs.Choices.{and-left, either, not-right}
+use Rattle.ground.proofs.Choices.{and-left, either}
 use Rattle.refusal.specs.Refusal.{refuses}
 use Rattle.refusal.specs.declared.Refusal.{Refusal}
 use Rattle.refusal.specs.declared.Refusal.the-variants.{NotAwaited, NotWaiting}
@@ -31,13 +31,8 @@ use Rattle.series.specs.Series.{Input, World, waitsIn, isSeek}
 use Rattle.series.specs.Demand.{turnWith}
 use Rattle.series.specs.Exchange.{Course, before, isAnswered, isOf, isRunning}
 use Rattle.series.specs.Ours.{ours}
-use Rattle.exchanges.proofs.Taken.{by-refusals}
+use Rattle.lasting.proofs.Taken.{no-wait, by-refusals}
 use Rattle.exchanges.proofs.Course.{Over, Joined}
-
--- a refusal waits in no exchange
-no-wait : (r : Refusal) → waitsIn (refuses r) ≡ 0
-unfolding choose
-no-wait r = rw (not-right (eqb (refuses r .number) 0) false refl) refl
 
 -- what an answer waits in at most
 abbrev Waits : ℕ → After → Type 0

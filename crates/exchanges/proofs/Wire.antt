@@ -38,7 +38,7 @@ use Rattle.steps.specs.Step.{stepOf}
 use Rattle.series.specs.Series.{World, after, isAccepted, waitsIn}
 use Rattle.series.specs.Wire.{isSending, addressed, isTypeOf, AsTold, OnTheWire}
 use Rattle.series.specs.Ours.{ours}
-use Rattle.exchanges.proofs.Taken.{by-accepted}
+use Rattle.lasting.proofs.Taken.{by-accepted}
 
 -- a frame of a short payload, whose header goes where the answer says, with a type of its exchange
 frame-told : (s : Setup) (says : Told) (h : Header) (p : List ℕ) → length p ≤ 240 → h .destination ≡ addressed s says → isTypeOf (waitsIn says) (h .message) ≡ true → AsTold s says (frameOf h p)

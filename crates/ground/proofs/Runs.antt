@@ -1,7 +1,8 @@
--- The numbers from a on: how many, and which stands where.
+-- The numbers from a on: how many, and which stands where; and what a function makes of them.
 use Prim.Native.Nat.{ℕ, zero, suc, _+_, _<_}
 use native.Mathlib.Omega.{arith}
 use mathlib.Core.Path.{_≡_, refl, ap, _∙_}
+use mathlib.Core.List.{map}
 use lib.ListN.{length, getD}
 use Rattle.ground.specs.Below.{upFrom}
 
@@ -15,3 +16,9 @@ unfolding upFrom
 run-at a zero i d h = absurd (let z : ⊥ = omega arith in z)
 run-at a (suc n) zero d h = omega arith
 run-at a (suc n) (suc i) d h = run-at (a + 1) n i d (omega arith) ∙ omega arith
+
+pub run-map-at {ℓ} : {A : Type ℓ} (f : ℕ → A) (a n i : ℕ) (d : A) → i < n → getD (map f (upFrom a n)) i d ≡ f (a + i)
+unfolding upFrom
+run-map-at f a zero i d h = absurd (let z : ⊥ = omega arith in z)
+run-map-at f a (suc n) zero d h = ap f (let e : a ≡ a + 0 = omega arith in e)
+run-map-at f a (suc n) (suc i) d h = run-map-at f (a + 1) n i d (omega arith) ∙ ap f (let e : a + 1 + i ≡ a + suc i = omega arith in e)

@@ -1,29 +1,28 @@
--- What a join does: the address of a newcomer is nobody's; an accepted join lists the board at a position from 1 to k; a board that comes back keeps its position and type (01, "Join").
-use Prim.Native.Nat.{ℕ, _<_}
+-- What a join does: the address of a newcomer is nobody's; an accepted join lists the board at a position from 1 to k; a board that comes back has its position again, and the type that it now gives (01, "Join"; 02, C-12).
+use Prim.Native.Nat.{ℕ}
 use native.Mathlib.Omega.{arith}
 use mathlib.Core.Path.{_≡_, sym, ap, _∙_}
-use mathlib.Core.Bool.{true}
+use mathlib.Core.Bool.{true, not}
 use mathlib.Core.List.{List}
-use borrow.Author.Tests.{eqb-false, eq-eqb, not-false}
-use Rattle.ground.proofs.Choices.{both}
+use lib.Dec.{eqb}
+use borrow.Author.Tests.{eqb-false, not-false}
+use Rattle.ground.proofs.Choices.{and-left}
 use Rattle.refusal.proofs.Rules.{Passed}
 use Rattle.board.specs.declared.Node.{Node}
-use Rattle.board.specs.declared.Wanted.the-variants.{Mac}
 use Rattle.board.specs.Node.{isListed, isKind}
 use Rattle.board.specs.Table.{at, listedAt}
-use Rattle.board.specs.Change.{heard, renewed, owe}
+use Rattle.board.specs.Change.{joinedNode, owe}
 use Rattle.board.proofs.Changes.{at-put, at-owe-all}
-use Rattle.board.proofs.LowestWanted.{lowest-found}
 use Rattle.setup.specs.Setup.{address}
 use Rattle.setup.specs.Fitness.{Position, Listed}
-use Rattle.setup.proofs.Apart.{one-answers, newcomer-apart}
+use Rattle.setup.proofs.Apart.{newcomer-apart}
 use Rattle.coordinator.specs.declared.Coordinator.{Coordinator}
 use Rattle.coordinator.specs.Fit.{fits}
 use Rattle.coordinator.specs.Fitness.{Fit}
-use Rattle.coordinator.proofs.Fitting.{listed-told, listed-passes, fit-told}
+use Rattle.coordinator.proofs.Fitting.{fit-told}
 use Rattle.steps.specs.After.{After, rests}
-use Rattle.steps.specs.Join.{known, chosen, joining, joinRules, joinedAs, joinOf}
-use Rattle.steps.proofs.Chosen.{chosen-known, chosen-new, chosen-within, known-listed, known-mac, joining-known, joining-listed, joining-mac}
+use Rattle.steps.specs.Join.{known, chosen, joinRules, joinedAs, joinOf}
+use Rattle.steps.proofs.Chosen.{chosen-new, chosen-within, chosen-own}
 use Rattle.join.proofs.Verdict.{join-passed, join-accepted}
 
 -- where all is fit, the address chosen for a MAC that nobody has is no listed board's: the test that number 17 was for never holds (02, C-23)
@@ -38,10 +37,10 @@ pub record ListedAs (k m : ℕ) (a : After) : Type 0 where
   pub listed : listedAt (a .nodes) (a .joined) ≡ true
   pub mac : at (a .nodes) (a .joined) .mac ≡ m
 
--- a board that comes back: the position and the type that it had, its session replaced, no misses
-pub record CameBack (t : List Node) (p s : ℕ) (a : After) : Type 0 where
+-- a board that comes back: the position that it had, its type and its session replaced, no misses
+pub record CameBack (p n s : ℕ) (a : After) : Type 0 where
   pub position : a .joined ≡ p
-  pub kind : at (a .nodes) p .kind ≡ at t p .kind
+  pub kind : at (a .nodes) p .kind ≡ n
   pub session : at (a .nodes) p .session ≡ s
   pub misses : at (a .nodes) p .misses ≡ 0
 
@@ -56,7 +55,7 @@ module _ (c : Coordinator) (t : List Node) (kind mac session : ℕ) (accepted : 
   within = chosen-within t (c .setup .k) mac (eqb-false (chosen t (c .setup .k) mac) 0 (rules .1 .1 .1 .1 .1 .0))
 
   -- what stands at the position afterwards
-  joined-record : at (joinedAs c t kind mac session .nodes) (chosen t (c .setup .k) mac) ≡ owe (joining t (c .setup .k) kind mac session)
+  joined-record : at (joinedAs c t kind mac session .nodes) (chosen t (c .setup .k) mac) ≡ owe (joinedNode kind mac session)
   joined-record = at-owe-all _ (chosen t (c .setup .k) mac) ∙ ap owe (at-put t (chosen t (c .setup .k) mac) _ (within .from) (omega (arith, fit .table .forty, within .upTo, fit .setup .pool .upTo)))
 
   pub joined-listed : ListedAs (c .setup .k) mac (joinOf c t kind mac session)
@@ -64,11 +63,11 @@ module _ (c : Coordinator) (t : List Node) (kind mac session : ℕ) (accepted : 
       rw (join-passed c t kind mac session rules)
       (record {
         position = within;
-        listed = ap isListed joined-record ∙ joining-listed t (c .setup .k) mac kind session (not-false (isKind kind) (rules .1 .0));
-        mac = ap (λ (n : Node). n .mac) joined-record ∙ joining-mac t (c .setup .k) mac kind session;
+        listed = ap isListed joined-record ∙ and-left (not (eqb kind 0)) _ (not-false (isKind kind) (rules .1 .0));
+        mac = ap (λ (n : Node). n .mac) joined-record;
       })
 
-  pub came-back : (p : ℕ) → Listed t p → at t p .mac ≡ mac → CameBack t p session (joinOf c t kind mac session)
+  pub came-back : (p : ℕ) → Listed t p → at t p .mac ≡ mac → CameBack p kind session (joinOf c t kind mac session)
   came-back p l m =
       rw (join-passed c t kind mac session rules)
       (record {
@@ -78,14 +77,8 @@ module _ (c : Coordinator) (t : List Node) (kind mac session : ℕ) (accepted : 
         misses = ap (λ (n : Node). n .misses) after;
       })
     where
-      here : 0 < known t (c .setup .k) mac
-      here = lowest-found t (Mac mac) (c .setup .k) p (both (listedAt t p) _ (listed-passes t p l) (eq-eqb (at t p .mac) mac m)) (fit .table .within p l .from) (omega (arith, fit .table .within p l .upTo, fit .setup .pool .upTo)) .from
-
-      same : known t (c .setup .k) mac ≡ p
-      same = one-answers (c .setup .k) t (fit .table) mac (known t (c .setup .k) mac) p (listed-told t (known t (c .setup .k) mac) (known-listed t (c .setup .k) mac here)) l (known-mac t (c .setup .k) mac here) m
-
       there : chosen t (c .setup .k) mac ≡ p
-      there = chosen-known t (c .setup .k) mac here ∙ same
+      there = chosen-own t (c .setup .k) mac (fit .setup .pool .upTo) (fit .table) p l m
 
-      after : at (joinedAs c t kind mac session .nodes) p ≡ owe (renewed (heard (at t p)) session)
-      after = ap (at (joinedAs c t kind mac session .nodes)) (sym there) ∙ joined-record ∙ ap owe (joining-known t (c .setup .k) mac kind session here ∙ ap (λ (q : ℕ). renewed (heard (at t q)) session) same)
+      after : at (joinedAs c t kind mac session .nodes) p ≡ owe (joinedNode kind mac session)
+      after = ap (at (joinedAs c t kind mac session .nodes)) (sym there) ∙ joined-record

@@ -1,5 +1,4 @@
 // The step join: a board that has finished the exchange by which boards join is listed, or has its address again.
-use board::Node;
 use board::Table;
 use board::Wanted;
 use coordinator::Coordinator;
@@ -14,7 +13,7 @@ ghost use Rattle.refusal.specs.Refusal.{ruled, refuses, gives};
 ghost use Rattle.board.specs.Node.{isKind};
 ghost use Rattle.setup.specs.Setup.{toldOf};
 ghost use Rattle.steps.specs.After.{shown, shows};
-ghost use Rattle.steps.specs.Join.{isResting, isBusy, known, chosen, joinRules, joining, joinOf};
+ghost use Rattle.steps.specs.Join.{isResting, isBusy, known, chosen, joinRules, joinOf};
 
 // A board's type is neither 0 nor the coordinator's.
 fn is_kind(kind: u8) -> bool
@@ -103,21 +102,7 @@ fn judge_join(coordinator: Coordinator, table: Table, kind: u8, mac: u64) -> Jud
     judge_moment(coordinator, table, mac)
 }
 
-// The record of the board that joins: the listed one with another session and no misses, or a new one.
-fn joining(table: Table, k: usize, kind: u8, mac: u64, session: u64) -> Node
-    ensures { λ r. ⌜ r ≡ joining (table .nodes) k kind mac session ⌝ }
-{
-    let position = known(table, k, mac);
-    if 0 < position {
-        let record = board::record_at(table, position);
-        let heard = board::heard(record);
-        board::renewed(heard, session)
-    } else {
-        board::joined_node(kind, mac, session)
-    }
-}
-
-// A board joins: the list is then owed to every listed board, and further joins are held.
+// A board joins, or joins again, perhaps as another type: its record begins anew. The list is then owed to every listed board, and further joins are held.
 pub fn join(coordinator: Coordinator, table: Table, kind: u8, mac: u64, session: u64) -> Stepped
     ensures { λ r. ⌜ shown r ≡ shows (joinOf coordinator (table .nodes) kind mac session) ⌝ }
 {
@@ -126,12 +111,10 @@ pub fn join(coordinator: Coordinator, table: Table, kind: u8, mac: u64, session:
         Judged::Refused(refusal) => steps::refusing(coordinator, table, refusal),
         Judged::Fine => {
             let setup = coordinator.setup;
-            let k = setup.k;
-            let position = chosen(table, k, mac);
-            let node = joining(table, k, kind, mac, session);
+            let position = chosen(table, setup.k, mac);
             steps::resting(
                 coordinator::holding(coordinator, true),
-                board::owe_all(board::put_at(table, position, node)),
+                board::owe_all(board::list_at(table, position, kind, mac, session)),
                 position,
                 0,
             )

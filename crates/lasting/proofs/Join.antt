@@ -5,22 +5,17 @@ use mathlib.Core.Bool.{Bool, true, false, _||_, not, false≢true}
 use mathlib.Core.List.{List}
 use native.Mathlib.Omega.{arith}
 use lib.ListN.{length, drop}
-use lib.Dec.{ltb, eqb}
-use borrow.Author.Tests.{ltb-true, ltb-false, eqb-false, eq-eqb, not-true, not-false}
-use Rattle.ground.specs.Choose.{choose}
-use Rattle.ground.proofs.Choices.{and-left, and-right, both}
+use lib.Dec.{eqb}
+use borrow.Author.Tests.{eqb-false, not-true, not-false}
+use Rattle.ground.proofs.Choices.{and-left, and-right}
 use Rattle.refusal.specs.declared.Refusal.{Refusal}
 use Rattle.refusal.proofs.Rules.{Passed, each, by-rules}
 use Rattle.board.specs.declared.Node.{Node}
-use Rattle.board.specs.declared.Wanted.the-variants.{Mac, Free}
 use Rattle.board.specs.Node.{isKind, isMac}
 use Rattle.board.specs.Table.{at, put, listedAt}
-use Rattle.board.specs.Wanted.{lowestOf}
-use Rattle.board.specs.Change.{joinedNode, heard, renewed, oweAll}
-use Rattle.board.proofs.LowestWanted.{lowest-found}
+use Rattle.board.specs.Change.{joinedNode, oweAll}
 use Rattle.board.proofs.Changes.{owe-all-listed}
 use Rattle.setup.specs.Fitness.{Position, Listed, InRanges, FitTable}
-use Rattle.setup.proofs.Places.{FreePlace, free-found}
 use Rattle.setup.proofs.Pools.{mac-told}
 use Rattle.setup.proofs.Tables.{table-passes}
 use Rattle.coordinator.specs.declared.Phase.{Phase}
@@ -30,16 +25,12 @@ use Rattle.coordinator.specs.declared.Coordinator.{Coordinator}
 use Rattle.coordinator.specs.Phase.{phaseOf}
 use Rattle.coordinator.specs.Fit.{phaseFits, holdFits, fits}
 use Rattle.coordinator.specs.Change.{holding}
-use Rattle.coordinator.proofs.Fitting.{listed-told, listed-passes, listed-some, fits-of, fits-setup, fits-seek, fits-searched, fits-last, fit-told}
+use Rattle.coordinator.proofs.Fitting.{listed-told, listed-some, fits-of, fits-setup, fits-seek, fits-searched, fits-last, fit-told}
 use Rattle.steps.specs.After.{After, refused}
-use Rattle.steps.specs.Join.{isResting, known, chosen, joining, joinRules, joinOf}
-use Rattle.steps.proofs.Chosen.{known-listed}
-use Rattle.lasting.proofs.Tables.{Follows, renewed-follows, put-fit, put-listed, join-fit, join-listed, owe-all-fit}
+use Rattle.steps.specs.Join.{isResting, chosen, joinRules, joinOf}
+use Rattle.steps.proofs.Chosen.{chosen-within, chosen-own}
+use Rattle.lasting.proofs.Tables.{join-fit, join-listed, owe-all-fit}
 use Rattle.lasting.proofs.Keeps.{Keeps, accepted-keeps, rules-keep, some-same, table-fit}
-
--- a MAC that is not known is nobody's
-pub nobody-has : (t : List Node) (k mac : ℕ) → k ≤ 40 → FitTable k t → ltb 0 (known t k mac) ≡ false → (q : ℕ) → Listed t q → at t q .mac ≡ mac → ⊥
-nobody-has t k mac few f e q l same = omega (arith, ltb-false 0 (known t k mac) e, lowest-found t (Mac mac) k q (both (listedAt t q) (eqb (at t q .mac) mac) (listed-passes t q l) (eq-eqb (at t q .mac) mac same)) (f .within q l .from) (omega (arith, few, f .within q l .upTo)) .from)
 
 -- a board's record put at a position: the table is fit, and the board is listed there
 abbrev Placed : ℕ → List Node → ℕ → Node → Type 0
@@ -56,40 +47,24 @@ module _ (c : Coordinator) (t : List Node) (h : fits c t ≡ true) (kind mac ses
         owed = omega arith;
       }
 
-  comes-back : ltb 0 (known t (c .setup .k) mac) ≡ true → Placed (c .setup .k) t (known t (c .setup .k) mac) (renewed (heard (at t (known t (c .setup .k) mac))) session)
-  comes-back e = (put-fit (c .setup .k) t f _ _ l s, put-listed (c .setup .k) t f _ _ l s (known t (c .setup .k) mac) ∙ known-listed t (c .setup .k) mac (ltb-true 0 (known t (c .setup .k) mac) e))
+  -- a board that joins for the first time, and one that comes back: its MAC is nobody else's
+  placed : eqb (chosen t (c .setup .k) mac) 0 ≡ false → Placed (c .setup .k) t (chosen t (c .setup .k) mac) (joinedNode kind mac session)
+  placed full = (join-fit (c .setup .k) t f _ _ p inside new-ranges own, join-listed (c .setup .k) t f _ _ p inside new-ranges own)
     where
       f : FitTable (c .setup .k) t
       f = table-fit c t h
 
-      l : Listed t (known t (c .setup .k) mac)
-      l = listed-told t (known t (c .setup .k) mac) (known-listed t (c .setup .k) mac (ltb-true 0 (known t (c .setup .k) mac) e))
+      few : c .setup .k ≤ 40
+      few = fit-told c t h .setup .pool .upTo
 
-      s : Follows (at t (known t (c .setup .k) mac)) (renewed (heard (at t (known t (c .setup .k) mac))) session)
-      s = renewed-follows (at t (known t (c .setup .k) mac)) session
+      p : Position (c .setup .k) (chosen t (c .setup .k) mac)
+      p = chosen-within t (c .setup .k) mac (eqb-false (chosen t (c .setup .k) mac) 0 full)
 
-  comes-new : ltb 0 (known t (c .setup .k) mac) ≡ false → (lowestOf t Free (c .setup .k) ≡ 0 → ⊥) → Placed (c .setup .k) t (lowestOf t Free (c .setup .k)) (joinedNode kind mac session)
-  comes-new e ne = (join-fit (c .setup .k) t f _ _ (p .place) inside new-ranges new, join-listed (c .setup .k) t f _ _ (p .place) inside new-ranges new)
-    where
-      f : FitTable (c .setup .k) t
-      f = table-fit c t h
+      inside : chosen t (c .setup .k) mac ≤ length t
+      inside = omega (arith, p .upTo, few, f .forty)
 
-      p : FreePlace t (c .setup .k) (lowestOf t Free (c .setup .k))
-      p = free-found t (c .setup .k) ne
-
-      inside : lowestOf t Free (c .setup .k) ≤ length t
-      inside = omega (arith, p .inside, f .forty)
-
-      new : (q : ℕ) → Listed t q → at t q .mac ≡ mac → ⊥
-      new = nobody-has t (c .setup .k) mac (fit-told c t h .setup .pool .upTo) f e
-
-  placed : eqb (chosen t (c .setup .k) mac) 0 ≡ false → Placed (c .setup .k) t (chosen t (c .setup .k) mac) (joining t (c .setup .k) kind mac session)
-  unfolding choose
-  placed full = go (ltb 0 (known t (c .setup .k) mac)) refl full
-    where
-      go : (b : Bool) → ltb 0 (known t (c .setup .k) mac) ≡ b → eqb (choose b (known t (c .setup .k) mac) (lowestOf t Free (c .setup .k))) 0 ≡ false → Placed (c .setup .k) t (choose b (known t (c .setup .k) mac) (lowestOf t Free (c .setup .k))) (choose b (renewed (heard (at t (known t (c .setup .k) mac))) session) (joinedNode kind mac session))
-      go true e r = comes-back e
-      go false e r = comes-new e (eqb-false (lowestOf t Free (c .setup .k)) 0 r)
+      own : (q : ℕ) → Listed t q → at t q .mac ≡ mac → q ≡ chosen t (c .setup .k) mac
+      own q l m = sym (chosen-own t (c .setup .k) mac few f q l m)
 
 -- nothing is named where nothing is waited for or due
 resting-fits : (p : Phase) (t : List Node) (m : Kept) → isResting p ≡ true → phaseFits p t m ≡ true
@@ -118,7 +93,7 @@ pub join-keeps : (c : Coordinator) (t : List Node) (kind mac session : ℕ) → 
 unfolding joinOf
 join-keeps c t kind mac session = rules-keep c t (drop 1 (joinRules c t kind mac)) refl _ (λ h passed. accepted-keeps c t _ (joined h passed) refl refl)
   where
-    joined : fits c t ≡ true → Passed (drop 1 (joinRules c t kind mac)) → fits (holding c true) (oweAll (put t (chosen t (c .setup .k) mac) (joining t (c .setup .k) kind mac session))) ≡ true
+    joined : fits c t ≡ true → Passed (drop 1 (joinRules c t kind mac)) → fits (holding c true) (oweAll (put t (chosen t (c .setup .k) mac) (joinedNode kind mac session))) ≡ true
     joined h passed = joined-fits c t h (idle (isResting (phaseOf (c .stand))) _ (passed .1 .1 .0)) _ _ (placed c t h kind mac session (not-false _ (passed .0)) (not-false _ (passed .1 .0)) (passed .1 .1 .1 .1 .0))
 
 -- who joined is within the ranges, at a position from 1 to k
@@ -144,5 +119,5 @@ join-taken c t kind mac session = by-rules (λ (a : After). 1 ≤ a .joined → 
         own : isMac mac ≡ true
         own = not-false (isMac mac) (passed .1 .1 .0)
 
-        there : Placed (c .setup .k) t (chosen t (c .setup .k) mac) (joining t (c .setup .k) kind mac session)
+        there : Placed (c .setup .k) t (chosen t (c .setup .k) mac) (joinedNode kind mac session)
         there = placed c t (not-false (fits c t) (passed .0)) kind mac session one own (passed .1 .1 .1 .1 .1 .0)

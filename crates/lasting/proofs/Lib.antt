@@ -11,3 +11,4 @@ pub mod Quiet
 pub mod Keeping
 pub mod Starting
 pub mod Series
+pub mod Taken

@@ -122,9 +122,9 @@ module _ (k : ℕ) (t : List Node) (f : FitTable k t) where
   pub clear-fit : (p : ℕ) → Listed t p → FitTable k (put t p none)
   clear-fit p l = kept-fit k t (put t p none) (put-length t p none) (λ q. at-put-each (Changed (at t q)) t p none (f .within p l .from) (listed-inside p l) q (λ e. inl refl) (λ ne. unchanged (at t q))) f
 
-  -- a new board's record at a position, with a MAC that is nobody's
-  module _ (p : ℕ) (n : Node) (here : Position k p) (inside : p ≤ length t) (r : InRanges n) (new : (q : ℕ) → Listed t q → at t q .mac ≡ n .mac → ⊥) where
-    -- whoever is listed then is the new board, or was listed before
+  -- the record of a board that joins at a position, with a MAC that is nobody else's
+  module _ (p : ℕ) (n : Node) (here : Position k p) (inside : p ≤ length t) (r : InRanges n) (own : (q : ℕ) → Listed t q → at t q .mac ≡ n .mac → q ≡ p) where
+    -- whoever is listed then is that board, or was listed before
     abbrev Source : ℕ → Type 0
     Source q = ((q ≡ p) × (at (put t p n) q ≡ n)) ⊎ ((Listed t q) × (at (put t p n) q ≡ at t q))
 
@@ -145,8 +145,8 @@ module _ (k : ℕ) (t : List Node) (f : FitTable k t) where
 
     differ : (a b : ℕ) → Source a → Source b → (a ≡ b → ⊥) → at (put t p n) a .mac ≡ at (put t p n) b .mac → ⊥
     differ a b (inl (e, x)) (inl (g, y)) ne s = ne (e ∙ sym g)
-    differ a b (inl (e, x)) (inr (l, y)) ne s = new b l (rw (x, y) at (sym s))
-    differ a b (inr (l, x)) (inl (g, y)) ne s = new a l (rw (x, y) at s)
+    differ a b (inl (e, x)) (inr (l, y)) ne s = ne (e ∙ sym (own b l (rw (x, y) at (sym s))))
+    differ a b (inr (l, x)) (inl (g, y)) ne s = ne (own a l (rw (x, y) at s) ∙ sym g)
     differ a b (inr (l, x)) (inr (m, y)) ne s = f .apart a b l m ne (rw (x, y) at s)
 
     pub join-fit : FitTable k (put t p n)

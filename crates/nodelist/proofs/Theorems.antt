@@ -4,19 +4,20 @@ use native.Mathlib.Omega.{arith}
 use native.Mathlib.Decide.{decLt}
 use mathlib.Core.Path.{_≡_, refl, ap, _∙_, sym}
 use mathlib.Core.Logic.{inl, inr}
-use mathlib.Core.List.{List}
+use mathlib.Core.List.{List, _∷_, map}
 use mathlib.Core.Bool.{Bool, true, false, not, false≢true}
 use lib.ListN.{length, getD, List·getD-eq-default}
 use lib.Seq.{ext-getD}
 use lib.Dec.{eqb}
 use borrow.Author.Tests.{eq-eqb, eqb-true}
-use Rattle.ground.specs.Below.{all}
+use Rattle.ground.specs.Below.{all, upFrom}
 use Rattle.ground.proofs.Choices.{and-left, and-right, both}
 use Rattle.ground.proofs.Loops.{all-at, all-of}
 use Rattle.ground.proofs.Highest.{HighestCase}
 use Rattle.board.specs.declared.Node.{Node}
 use Rattle.board.specs.Table.{listedAt}
 use Rattle.board.proofs.LowestWanted.{highest-listed-case}
+use Rattle.board.proofs.SameKinds.{SameKinds, kinds-highest}
 use Rattle.board.specs.Wanted.{highestListed}
 use Rattle.nodelist.specs.List.{kindAt, nodeList, listLength, sameByte, sameList}
 use Rattle.nodelist.proofs.Bytes.{highest-within, list-size, list-byte}
@@ -82,3 +83,8 @@ pub same-of : (internal : ℕ) (t : List Node) (bytes : List ℕ) → bytes ≡ 
 unfolding sameList sameByte
 same-of internal t bytes e =
     both _ _ (eq-eqb (length bytes) (listLength t) (ap length e ∙ list-size internal t)) (all-of (sameByte internal t bytes) (listLength t) (λ i l. eq-eqb _ _ (ap (λ (b : List ℕ). getD b i 0) e)))
+
+-- the list is made of the types alone
+pub kinds-list : {t u : List Node} → SameKinds t u → (internal : ℕ) → nodeList internal t ≡ nodeList internal u
+unfolding nodeList
+kinds-list same internal = λ i. internal ∷ map (λ p. same .kind p i) (upFrom 1 (kinds-highest same i))

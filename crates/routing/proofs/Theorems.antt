@@ -11,7 +11,7 @@ use lib.ListN.{length}
 use lib.Dec.{eqb, leb, ltb}
 use borrow.Author.Tests.{eqb-true, eqb-false, eq-eqb, ne-eqb, ltb-true, leb-true, lt-ltb, le-leb}
 use Rattle.ground.specs.Choose.{choose}
-use Rattle.ground.specs.Below.{among}
+use Rattle.ground.specs.Below.{firstOr, among}
 use Rattle.ground.proofs.Choices.{and-left, and-right, both}
 use Rattle.ground.proofs.Firsts.{First}
 use Rattle.ground.proofs.Picks.{first-passes, first-among, first-after}
@@ -21,6 +21,7 @@ use Rattle.board.specs.Table.{at, listedAt}
 use Rattle.board.specs.Wanted.{wantedAt, lowestOf}
 use Rattle.board.proofs.Positions.{listed-within}
 use Rattle.board.proofs.LowestWanted.{lowest-wanted, lowest-found}
+use Rattle.board.proofs.SameKinds.{SameKinds, kinds-listed, kinds-lowest}
 use Rattle.routing.specs.Priority.{priorityList, dash}
 use Rattle.routing.specs.Route.{hasKind, priorityKind, atSocket, namedPosition, routeOf}
 use Rattle.routing.specs.Suits.{meant, Suits}
@@ -217,3 +218,37 @@ no-socket t k sender p h = discarded-there t k sender 3 p (inl (λ q s. outside 
     outside : (q : ℕ) → Suits t k 3 p q → q ≡ p → (p ≡ 0) ⊎ (k < p) → ⊥
     outside q s e (inl z) = omega (arith, s .from)
     outside q s e (inr l) = omega (arith, s .within)
+
+-- a request for the host, by method 0, goes to no board
+pub route-host : (t : List Node) (k sender parameter : ℕ) → routeOf t k sender 0 parameter ≡ 0
+unfolding routeOf namedPosition choose
+route-host t k sender parameter = go (eqb 0 sender)
+  where
+    go : (b : Bool) → _≡_ {A = ℕ} (choose b 0 0) 0
+    go true = refl
+    go false = refl
+
+-- where a request goes is told by the types alone
+module _ {t u : List Node} (same : SameKinds t u) (k : ℕ) where
+  kinds-has : hasKind t k ≡ hasKind u k
+  unfolding hasKind
+  kinds-has = λ i kind. ltb 0 (kinds-lowest same kind k i)
+
+  kinds-priority : (code : ℕ) → priorityKind t k code ≡ priorityKind u k code
+  unfolding priorityKind
+  kinds-priority code = ap (λ (f : ℕ → Bool). firstOr 0 f (priorityList code)) kinds-has
+
+  kinds-socket : (p : ℕ) → atSocket t k p ≡ atSocket u k p
+  unfolding atSocket
+  kinds-socket p = ap (λ (f : ℕ → Bool). choose (ltb 0 p && leb p k && f p) p 0) (kinds-listed same)
+
+  kinds-named : (method parameter : ℕ) → namedPosition t k method parameter ≡ namedPosition u k method parameter
+  unfolding namedPosition
+  kinds-named method parameter =
+      λ i. choose (eqb method 1) ((kinds-lowest same (priorityKind t k parameter) k ∙ ap (λ (kind : ℕ). lowestOf u (Kind kind) k) (kinds-priority parameter)) i)
+      (choose (eqb method 2) (kinds-lowest same parameter k i)
+      (choose (eqb method 3) (kinds-socket parameter i) 0))
+
+  pub kinds-route : (sender method parameter : ℕ) → routeOf t k sender method parameter ≡ routeOf u k sender method parameter
+  unfolding routeOf
+  kinds-route sender method parameter = ap (λ (p : ℕ). choose (eqb p sender) 0 p) (kinds-named method parameter)

@@ -15,7 +15,7 @@ use Rattle.board.specs.Wanted.{lowestOf, someListed}
 use Rattle.setup.specs.Setup.{isPool, address}
 use Rattle.coordinator.specs.declared.Phase.the-variants.{Resting}
 use Rattle.coordinator.specs.Phase.{phaseOf}
-use Rattle.steps.specs.declared.Event.the-variants.{Join, Turn, Quiet}
+use Rattle.steps.specs.declared.Event.the-variants.{Join, Turn, Frame, Quiet}
 use Rattle.steps.specs.After.{rests}
 use Rattle.steps.specs.Join.{chosen}
 use Rattle.series.specs.Series.{Input, World, Panel, left, Fresh, after, isAccepted, waitedFor, offers, accepted, stays}
@@ -31,10 +31,9 @@ Third P w is i p = (seen P w nothing is .run p ≡ 2) × (saw i (P .step (after 
 
 -- "A board leaves the list exactly when three messages to it in a row went unanswered since it last joined or was last heard."
 -- At any step of any series: position p leaves the list exactly when that step brings its run of unanswered messages to three.
--- And the list that the answers tell of is the panel's, with the MACs that the joins told.
+-- And the list that the answers tell of is the panel's.
 pub record WhoStays (P : Panel) : Type 0 where
   pub told : (k : ℕ) (w : World) → Fresh P k w → (is : List Input) (p : ℕ) → seen P w nothing is .listed p ≡ listedAt (after P w is .nodes) p
-  pub macs : (k : ℕ) (w : World) → Fresh P k w → (is : List Input) (p : ℕ) → listedAt (after P w is .nodes) p ≡ true → seen P w nothing is .mac p ≡ at (after P w is .nodes) p .mac
   pub only : (k : ℕ) (w : World) → Fresh P k w → (is : List Input) (i : Input) (p : ℕ) → Leaves P w is i p → Third P w is i p
   pub then : (k : ℕ) (w : World) → Fresh P k w → (is : List Input) (i : Input) (p : ℕ) → Third P w is i p → Leaves P w is i p
 
@@ -61,9 +60,12 @@ abbrev pub Bounded : Panel → Type 0
 Bounded P =
     (k : ℕ) (w : World) → Fresh P k w → (is js : List Input) (p : ℕ) → stays P (after P w is) js p ≡ true → bound k ≤ accepted P (after P w is) js → among p (offers P (after P w is) js) ≡ true
 
--- a join; a turn, and a quiet, with this room
+-- a join; a frame; a turn, and a quiet, with this room
 abbrev pub joinWith : ℕ → ℕ → ℕ → Input
 joinWith kind mac session = record { event = Join kind mac session; received = []; room = 0 }
+
+abbrev pub frameWith : List ℕ → ℕ → Input
+frameWith received room = record { event = Frame; received = received; room = room }
 
 abbrev pub turnWith : ℕ → Input
 turnWith room = record { event = Turn; received = []; room = room }

@@ -1,4 +1,4 @@
--- What an observer sees of a series: steps and answers, none of the panel's own counters (00, demand 3; 01, the last lines of "Steps"; 02, C-11).
+-- What an observer sees of a series: steps and answers, none of the panel's own counters (00, demand 3; 01, the last lines of "Steps"; 02, C-11 and C-12).
 use Prim.Native.Nat.{ℕ, _+_}
 use mathlib.Core.Bool.{Bool, true, false, _&&_, _||_, not}
 use mathlib.Core.List.{List, [], _∷_}
@@ -6,6 +6,7 @@ use lib.Dec.{eqb}
 use Rattle.ground.specs.Choose.{choose}
 use Rattle.refusal.specs.Refusal.{Told}
 use Rattle.frame.specs.Frame.{headerOf}
+use Rattle.board.specs.declared.Node.{Node}
 use Rattle.setup.specs.Setup.{address}
 use Rattle.coordinator.specs.declared.Found.{Found}
 use Rattle.coordinator.specs.Fresh.{blankFound}
@@ -16,12 +17,24 @@ use Rattle.steps.specs.Seek.{discovered, identified}
 use Rattle.steps.specs.Receive.{payload}
 use Rattle.series.specs.Series.{Input, World, Panel, left, isAccepted, waitedFor, waitsIn, isSeek}
 
--- who is on the list, as the answers told it, and each one's MAC, as its join told it; the kind of exchange in which the panel waits, 0 for none; the board a message
+-- who a board is: its type and its MAC
+pub record Who : Type 0 where
+  pub kind : ℕ
+  pub mac : ℕ
+
+-- as its record has it; as it answered in the exchange by which it joins
+abbrev pub recorded : Node → Who
+recorded n = record { kind = n .kind; mac = n .mac }
+
+abbrev pub given : Found → Who
+given f = record { kind = f .kind; mac = f .mac }
+
+-- who is on the list, as the answers told it, and who each one is, as its last join told it (02, C-12: "with the type taken from the last join"); the kind of exchange in which the panel waits, 0 for none; the board a message
 -- to which is waited for, 0 for none, and whether it was heard in that wait; for each position the run of unanswered messages since it last joined or was last
 -- heard; and who answered the last discovery
 pub record Seen : Type 0 where
   pub listed : ℕ → Bool
-  pub mac : ℕ → ℕ
+  pub who : ℕ → Who
   pub wait : ℕ
   pub awaited : ℕ
   pub heard : Bool
@@ -30,7 +43,7 @@ pub record Seen : Type 0 where
 
 -- a fresh start: nobody is listed, nothing is waited for
 abbrev pub nothing : Seen
-nothing = record { listed = λ p. false; mac = λ p. 0; wait = 0; awaited = 0; heard = false; run = λ p. 0; found = blankFound }
+nothing = record { listed = λ p. false; who = λ p. given blankFound; wait = 0; awaited = 0; heard = false; run = λ p. 0; found = blankFound }
 
 -- the same but for position p
 abbrev pub changed {ℓ} : {A : Type ℓ} → (ℕ → A) → ℕ → A → ℕ → A
@@ -44,12 +57,12 @@ joinedTo f joined v = choose (eqb joined 0) f (changed f joined v)
 abbrev pub messageTo : Told → ℕ
 messageTo says = choose (isSeek (waitsIn says)) 0 (waitedFor says)
 
--- an accepted join: the board at that position has joined, with this MAC
-abbrev pub sawJoin : ℕ → After → Seen → Seen
-sawJoin mac a s =
+-- an accepted join: the board at that position has joined, and this is who it is
+abbrev pub sawJoin : Who → After → Seen → Seen
+sawJoin who a s =
     record {
       listed = changed (s .listed) (a .joined) true;
-      mac = changed (s .mac) (a .joined) mac;
+      who = changed (s .who) (a .joined) who;
       wait = s .wait;
       awaited = s .awaited;
       heard = s .heard;
@@ -62,7 +75,7 @@ abbrev pub sawSent : After → Seen → Seen
 sawSent a s =
     record {
       listed = s .listed;
-      mac = s .mac;
+      who = s .who;
       wait = waitsIn (a .says);
       awaited = messageTo (a .says);
       heard = false;
@@ -75,7 +88,7 @@ abbrev pub sawBoard : List ℕ → After → Seen → Seen
 sawBoard received a s =
     record {
       listed = s .listed;
-      mac = s .mac;
+      who = s .who;
       wait = waitsIn (a .says);
       awaited = waitedFor (a .says);
       heard = true;
@@ -92,14 +105,14 @@ abbrev pub heardThere : List ℕ → After → Seen → ℕ → Bool
 heardThere received a s p =
     not (eqb (s .wait) 5) &&
     (s .listed p &&
-    (eqb (address (a .coordinator .setup) p) (headerOf received .source) && eqb (s .mac p) (teller received s .mac)))
+    (eqb (address (a .coordinator .setup) p) (headerOf received .source) && eqb (s .who p .mac) (teller received s .mac)))
 
 -- an accepted frame of the exchange by which a board joins: it may list a board, which begins anew; a discovery's response says who answered
 abbrev pub sawReply : List ℕ → After → Seen → Seen
 sawReply received a s =
     record {
       listed = joinedTo (s .listed) (a .joined) true;
-      mac = joinedTo (s .mac) (a .joined) (teller received s .mac);
+      who = joinedTo (s .who) (a .joined) (given (teller received s));
       wait = waitsIn (a .says);
       awaited = 0;
       heard = false;
@@ -116,7 +129,7 @@ abbrev pub sawQuiet : After → Seen → Seen
 sawQuiet a s =
     record {
       listed = choose (eqb (a .dropped) 0) (s .listed) (changed (s .listed) (a .dropped) false);
-      mac = s .mac;
+      who = s .who;
       wait = 0;
       awaited = 0;
       heard = false;
@@ -126,7 +139,7 @@ sawQuiet a s =
 
 -- what is seen after one more step; a refused one shows nothing
 abbrev pub sawEvent : Event → List ℕ → After → Seen → Seen
-sawEvent (Join kind mac session) received a s = sawJoin mac a s
+sawEvent (Join kind mac session) received a s = sawJoin (record { kind = kind; mac = mac }) a s
 sawEvent Turn received a s = sawSent a s
 sawEvent Frame received a s = sawFrame received a s
 sawEvent Quiet received a s = sawQuiet a s

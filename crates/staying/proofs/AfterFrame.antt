@@ -38,7 +38,7 @@ use Rattle.steps.specs.After.{After, refused, accepted, delivers, transmits}
 use Rattle.steps.specs.Hear.{hear}
 use Rattle.steps.specs.Receive.{payload, awaits, heardIn, hearAck, keptOf, acking, routed, acked, takenAs, takenIn, receiveRules, receiveIn, receiveOf}
 use Rattle.series.specs.Series.{isSeek}
-use Rattle.series.specs.Observed.{Seen, changed, sawBoard, sawReply}
+use Rattle.series.specs.Observed.{Who, recorded, Seen, changed, sawBoard, sawReply}
 use Rattle.staying.proofs.Agreement.{Waits, Agrees, Tells, Told, changed-none, Changes, put-changes, inside, owe-changes, listed-tells, seen-tells, refused-tells, rules-tell}
 use Rattle.staying.proofs.Addresses.{same-address}
 use Rattle.staying.proofs.AfterSeek.{sought-tells}
@@ -70,25 +70,25 @@ module _ (s : Seen) (c : Coordinator) (t : List Node) (h : fits c t ≡ true) (g
         ∙ ap (λ (x : Bool). choose x 0 (s .run p)) (same-address (c .setup) (setup-told (c .setup) (fits-setup c t h)) b p (board .from) (board .upTo))
 
     -- an accepted frame of the board: its misses are 0, and the wait that is seen is the phase's
-    heard-tells : {a : After} {n : ℕ} → a .coordinator .setup ≡ c .setup → a .says .number ≡ 0 → Changes t (a .nodes) b true 0 n → at t b .mac ≡ n → Waits (sawBoard received a s) (a .coordinator .found) (phaseOf (a .coordinator .stand)) → Told s t Frame received a
+    heard-tells : {a : After} {n : Who} → a .coordinator .setup ≡ c .setup → a .says .number ≡ 0 → Changes t (a .nodes) b true 0 n → recorded (at t b) ≡ n → Waits (sawBoard received a s) (a .coordinator .found) (phaseOf (a .coordinator .stand)) → Told s t Frame received a
     heard-tells {a} same e change alike wait =
         seen-tells Frame received e
         (subst (λ (s′ : Seen). Tells s s′ t a) (choose-no (isSeek (s .wait)) (sawBoard received a s) (sawReply received a s) (sawBoard received a s) plain refl)
-        (listed-tells g change refl (g .mac b (board .listed) ∙ alike) (λ two three. omega arith) (record { listed = changed-none (s .listed) b true (g .listed b ∙ board .listed); run = heard-run a same; mac = changed-none (s .mac) b (s .mac b) refl }) wait))
+        (listed-tells g change refl (g .who b (board .listed) ∙ alike) (λ two three. omega arith) (record { listed = changed-none (s .listed) b true (g .listed b ∙ board .listed); run = heard-run a same; who = changed-none (s .who) b (s .who b) refl }) wait))
 
-    hear-changes : Changes t (hear t b) b true 0 (at t b .mac)
+    hear-changes : Changes t (hear t b) b true 0 (recorded (at t b))
     hear-changes = put-changes t b (heard (at t b)) (board .from) (inside c t h board) (board .listed) refl
 
-    ack-changes : (session : ℕ) → Changes t (hearAck t b session) b true 0 (at t b .mac)
+    ack-changes : (session : ℕ) → Changes t (hearAck t b session) b true 0 (recorded (at t b))
     unfolding choose
     ack-changes session = go (eqb session (at t b .session))
       where
-        go : (same : Bool) → Changes t (choose same (hear t b) (oweAll (put t b (renewed (heard (at t b)) session)))) b true 0 (at t b .mac)
+        go : (same : Bool) → Changes t (choose same (hear t b) (oweAll (put t b (renewed (heard (at t b)) session)))) b true 0 (recorded (at t b))
         go true = hear-changes
         go false = owe-changes (put-changes t b (renewed (heard (at t b)) session) (board .from) (inside c t h board) (board .listed) refl)
 
     -- an ACK ends its wait, except after a forward
-    acked-tells : (exchange : Exchange) (q : ℕ) (u : List Node) → Changes t u b true 0 (at t b .mac) → Told s t Frame received (acked exchange b q c u)
+    acked-tells : (exchange : Exchange) (q : ℕ) (u : List Node) → Changes t u b true 0 (recorded (at t b)) → Told s t Frame received (acked exchange b q c u)
     unfolding choose
     acked-tells Offer q u change = heard-tells refl refl change refl (rw (phase-back resting) tt)
     acked-tells Listing q u change = heard-tells refl refl change refl (rw (phase-back resting) tt)

@@ -31,7 +31,7 @@ use Rattle.steps.specs.After.{After, accepted, rests}
 use Rattle.steps.specs.Seek.{quietInSeek}
 use Rattle.steps.specs.Quiet.{droppedAt, missedAt, quietValue, quietRules, quietIn, quietOf}
 use Rattle.series.specs.Series.{isSeek}
-use Rattle.series.specs.Observed.{Seen, changed, sawQuiet}
+use Rattle.series.specs.Observed.{recorded, Seen, changed, sawQuiet}
 use Rattle.staying.proofs.Agreement.{InPart, Waits, Agrees, Gone, Thrice, Told, still-tells, changed-here, changed-other, changed-none, Changes, put-changes, inside, owe-changes, agrees-changed, listed-tells, seen-tells, refused-tells, rules-tell}
 
 -- what quiet shows: the run is one more where the board was not heard, and a board that is dropped is listed no more
@@ -65,16 +65,16 @@ module _ (s : Seen) (c : Coordinator) (t : List Node) (h : fits c t ≡ true) (g
     -- the first miss and the second
     missed-tells : ltb (at t b .misses) 2 ≡ true → Told s t Quiet [] (accepted (withPhase c Resting) (put t b (missed (at t b))) rests [])
     unfolding choose
-    missed-tells few = seen-tells Quiet [] refl (listed-tells g (put-changes t b (missed (at t b)) (board .from) (inside c t h board) (board .listed) refl) (omega (arith, one)) (g .mac b (board .listed)) (λ two three. omega (arith, one)) (record { listed = changed-none (s .listed) b true (g .listed b ∙ board .listed); run = run-more; mac = changed-none (s .mac) b (s .mac b) refl }) (rw (phase-back resting) tt))
+    missed-tells few = seen-tells Quiet [] refl (listed-tells g (put-changes t b (missed (at t b)) (board .from) (inside c t h board) (board .listed) refl) (omega (arith, one)) (g .who b (board .listed)) (λ two three. omega (arith, one)) (record { listed = changed-none (s .listed) b true (g .listed b ∙ board .listed); run = run-more; who = changed-none (s .who) b (s .who b) refl }) (rw (phase-back resting) tt))
       where
         one : (s .run b ≡ at t b .misses) × (at t b .misses < 2)
         one = (g .run b (board .listed), ltb-true (at t b .misses) 2 few)
 
     -- the third miss
     dropped-tells : ltb (at t b .misses) 2 ≡ false → Told s t Quiet [] (droppedAt c t b)
-    dropped-tells third = seen-tells Quiet [] refl (record { agrees = agrees-changed g change (λ e. absurd (false≢true e)) (λ e. absurd (false≢true e)) (record { listed = λ p. dropped-listed s (droppedAt c t b) p (board .from); run = run-more; mac = changed-none (s .mac) b (s .mac b) refl }) (at-rest _ _ c (someListed (put t b none))); only = λ p. only p (ℕ-discrete p b); then = λ p. then p (ℕ-discrete p b) })
+    dropped-tells third = seen-tells Quiet [] refl (record { agrees = agrees-changed g change (λ e. absurd (false≢true e)) (λ e. absurd (false≢true e)) (record { listed = λ p. dropped-listed s (droppedAt c t b) p (board .from); run = run-more; who = changed-none (s .who) b (s .who b) refl }) (at-rest _ _ c (someListed (put t b none))); only = λ p. only p (ℕ-discrete p b); then = λ p. then p (ℕ-discrete p b) })
       where
-        change : Changes t (oweAll (put t b none)) b false 0 0
+        change : Changes t (oweAll (put t b none)) b false 0 (recorded none)
         change = owe-changes (put-changes t b none (board .from) (inside c t h board) refl refl)
 
         two : s .run b ≡ 2

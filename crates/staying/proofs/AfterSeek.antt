@@ -42,10 +42,10 @@ use Rattle.steps.specs.Join.{chosen, joinRules, joinedAs, joinOf}
 use Rattle.steps.specs.Seek.{discovered, identified, joinFound, answered, outcome, acknowledged, settled, repliedAs, soughtIn}
 use Rattle.steps.specs.Receive.{payload, awaits}
 use Rattle.series.specs.Series.{isSeek}
-use Rattle.series.specs.Observed.{Seen, changed, joinedTo, teller, heardThere, sawReply, sawBoard}
+use Rattle.series.specs.Observed.{recorded, given, Seen, changed, joinedTo, teller, heardThere, sawReply, sawBoard}
 use Rattle.staying.proofs.Agreement.{Waits, Agrees, Tells, Told, changed-none, put-changes, inside, listed-tells, still-tells, seen-tells, refused-tells}
 use Rattle.staying.proofs.Addresses.{same-address}
-use Rattle.staying.proofs.AfterJoin.{joined-changes, joined-mac}
+use Rattle.staying.proofs.AfterJoin.{joined-changes}
 
 -- nobody joined, or somebody did
 module _ {ℓ} {A : Type ℓ} (f : ℕ → A) (v : A) where
@@ -63,7 +63,7 @@ module _ (s : Seen) (c : Coordinator) (t : List Node) (h : fits c t ≡ true) (g
   -- a step that lists nobody and hears nobody
   silent-tells : {a : After} → a .says .number ≡ 0 → a .joined ≡ 0 → a .nodes ≡ t → ((p : ℕ) → heardThere received a s p ≡ false) → Waits (sawReply received a s) (a .coordinator .found) (phaseOf (a .coordinator .stand)) → Told s t Frame received a
   silent-tells {a} e none same unheard wait =
-      reply-tells e (still-tells g (λ p. ap (λ (u : List Node). listedAt u p) same) (λ p. ap (λ (u : List Node). at u p .misses) same) (λ p. ap (λ (u : List Node). at u p .mac) same) (joined-none (s .listed) true none) (λ p. joined-none (λ q. choose (heardThere received a s q) 0 (s .run q)) 0 none p ∙ sym (choose-no (heardThere received a s p) (s .run p) 0 (s .run p) (unheard p) refl)) (joined-none (s .mac) (teller received s .mac) none) wait)
+      reply-tells e (still-tells g (λ p. ap (λ (u : List Node). listedAt u p) same) (λ p. ap (λ (u : List Node). at u p .misses) same) (λ p. ap (λ (u : List Node). recorded (at u p)) same) (joined-none (s .listed) true none) (λ p. joined-none (λ q. choose (heardThere received a s q) 0 (s .run q)) 0 none p ∙ sym (choose-no (heardThere received a s p) (s .run p) 0 (s .run p) (unheard p) refl)) (joined-none (s .who) (given (teller received s)) none) wait)
 
   -- from the address at stake, in identify or assign
   module _ (b : ℕ) (here : Position (c .setup .k) b) (from : headerOf received .source ≡ address (c .setup) b) (later : eqb (s .wait) 5 ≡ false) (f : Found) (who : teller received s ≡ f) where
@@ -79,8 +79,8 @@ module _ (s : Seen) (c : Coordinator) (t : List Node) (h : fits c t ≡ true) (g
     heard-here : (a : After) → a .coordinator .setup ≡ c .setup → heardThere received a s b ≡ wantedAt (Mac (f .mac)) t b
     heard-here a same = rw (same, from, same-address (c .setup) (setup-told (c .setup) (fits-setup c t h)) b b (here .from) (here .upTo), eq-eqb b b refl, later, who, g .listed b) (go (listedAt t b) refl)
       where
-        go : (l : Bool) → listedAt t b ≡ l → (l && eqb (s .mac b) (f .mac)) ≡ (l && eqb (at t b .mac) (f .mac))
-        go true l = rw (g .mac b l) refl
+        go : (l : Bool) → listedAt t b ≡ l → (l && eqb (s .who b .mac) (f .mac)) ≡ (l && eqb (at t b .mac) (f .mac))
+        go true l = rw (g .who b l) refl
         go false l = refl
 
     -- a step that lists nobody, after which the board at stake is heard by its own MAC only
@@ -93,7 +93,7 @@ module _ (s : Seen) (c : Coordinator) (t : List Node) (h : fits c t ≡ true) (g
         ran = joined-none (λ q. choose (heardThere received a s q) 0 (s .run q)) 0 none
 
         go : (x : Bool) → wantedAt (Mac (f .mac)) t b ≡ x → a .nodes ≡ choose x (hear t b) t → Told s t Frame received a
-        go true w n = reply-tells e (subst (λ (u : List Node). Tells s (sawReply received a s) t (record { coordinator = a .coordinator; nodes = u; says = a .says; bytes = a .bytes; joined = a .joined; dropped = a .dropped })) (sym n) (listed-tells g (put-changes t b (heard (at t b)) (board .from) (inside c t h board) (board .listed) refl) refl (g .mac b (board .listed)) (λ two three. omega arith) (record { listed = λ p. joined-none (s .listed) true none p ∙ changed-none (s .listed) b true (g .listed b ∙ board .listed) p; run = λ p. ran p ∙ run p (ℕ-discrete p b); mac = λ p. joined-none (s .mac) (teller received s .mac) none p ∙ changed-none (s .mac) b (s .mac b) refl p }) wait))
+        go true w n = reply-tells e (subst (λ (u : List Node). Tells s (sawReply received a s) t (record { coordinator = a .coordinator; nodes = u; says = a .says; bytes = a .bytes; joined = a .joined; dropped = a .dropped })) (sym n) (listed-tells g (put-changes t b (heard (at t b)) (board .from) (inside c t h board) (board .listed) refl) refl (g .who b (board .listed)) (λ two three. omega arith) (record { listed = λ p. joined-none (s .listed) true none p ∙ changed-none (s .listed) b true (g .listed b ∙ board .listed) p; run = λ p. ran p ∙ run p (ℕ-discrete p b); who = λ p. joined-none (s .who) (given (teller received s)) none p ∙ changed-none (s .who) b (s .who b) refl p }) wait))
           where
             board : Board c t b
             board = board-listed c t h b (and-left (listedAt t b) (eqb (at t b .mac) (f .mac)) w)
@@ -110,7 +110,7 @@ module _ (s : Seen) (c : Coordinator) (t : List Node) (h : fits c t ≡ true) (g
     -- a step that lists whoever answered, at the position at stake
     lists-tells : isKind (f .kind) ≡ true → chosen t (c .setup .k) (f .mac) ≡ b → Told s t Frame received (acknowledged (c .setup) b (joinedAs (ended c) t (f .kind) (f .mac) (f .session)))
     unfolding choose
-    lists-tells one place = reply-tells refl (listed-tells g (joined-changes s (ended c) t fit rest (f .kind) (f .mac) (f .session) one found) refl (joined-mac s (ended c) t fit rest (f .kind) (f .mac) (f .session) one found) (λ two three. omega arith) (record { listed = joined-one (s .listed) true least; run = λ p. joined-one (λ q. choose (heardThere received a s q) 0 (s .run q)) 0 least p ∙ run p (ℕ-discrete p j); mac = λ p. joined-one (s .mac) (teller received s .mac) least p ∙ ap (λ (x : Found). changed (s .mac) j (x .mac) p) who }) (rw (phase-back resting) tt))
+    lists-tells one place = reply-tells refl (listed-tells g (joined-changes (ended c) t fit (f .kind) (f .mac) (f .session) one found) refl refl (λ two three. omega arith) (record { listed = joined-one (s .listed) true least; run = λ p. joined-one (λ q. choose (heardThere received a s q) 0 (s .run q)) 0 least p ∙ run p (ℕ-discrete p j); who = λ p. joined-one (s .who) (given (teller received s)) least p ∙ ap (λ (x : Found). changed (s .who) j (given x) p) who }) (rw (phase-back resting) tt))
       where
         a : After
         a = acknowledged (c .setup) b (joinedAs (ended c) t (f .kind) (f .mac) (f .session))
@@ -126,9 +126,6 @@ module _ (s : Seen) (c : Coordinator) (t : List Node) (h : fits c t ≡ true) (g
 
         fit : fits (ended c) t ≡ true
         fit = ended-fits c t h
-
-        rest : Agrees s (ended c) t
-        rest = record { listed = g .listed; run = g .run; mac = g .mac; wait = rw (phase-back resting) tt }
 
         run : (p : ℕ) → Dec (p ≡ j) → changed (λ q. choose (heardThere received a s q) 0 (s .run q)) j 0 p ≡ changed (s .run) j 0 p
         run p (yes e) = rw (eq-eqb p j e) refl

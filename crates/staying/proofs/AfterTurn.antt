@@ -20,27 +20,27 @@ use Rattle.coordinator.proofs.Phases.{offering, listing, forwarding, returning,
 use Rattle.coordinator.proofs.Fitting.{Board, board-listed}
 use Rattle.steps.specs.declared.Event.the-variants.{Turn}
 use Rattle.steps.specs.Turn.{Due, owedTo, dueList, dueOffer, dueOwn, dueIdentify, dueAssign, dueSeek, dueIn, turnRules, sent, turnIn, turnOf}
-use Rattle.series.specs.Observed.{Seen, sawSent}
+use Rattle.series.specs.Observed.{recorded, Seen, sawSent}
 use Rattle.lasting.proofs.Turn.{owed-listed}
 use Rattle.staying.proofs.Agreement.{Waits, Agrees, Told, still-tells, changed-none, Changes, put-changes, inside, seen-tells, rules-tell}
 
 module _ (s : Seen) (c : Coordinator) (t : List Node) (h : fits c t ≡ true) (g : Agrees s c t) where
-  -- what is sent leaves the list, the misses and the MACs as they were, and what is seen is the wait
-  sent-tells : (d : Due) → d .says .number ≡ 0 → ((p : ℕ) → listedAt (d .nodes) p ≡ listedAt t p) → ((p : ℕ) → at (d .nodes) p .misses ≡ at t p .misses) → ((p : ℕ) → at (d .nodes) p .mac ≡ at t p .mac) → Waits (sawSent (sent d) s) (d .coordinator .found) (phaseOf (d .coordinator .stand)) → Told s t Turn [] (sent d)
-  sent-tells d e listed misses macs wait = seen-tells Turn [] e (still-tells g listed misses macs (λ p. refl) (λ p. refl) (λ p. refl) wait)
+  -- what is sent leaves the list, the misses and who each one is as they were, and what is seen is the wait
+  sent-tells : (d : Due) → d .says .number ≡ 0 → ((p : ℕ) → listedAt (d .nodes) p ≡ listedAt t p) → ((p : ℕ) → at (d .nodes) p .misses ≡ at t p .misses) → ((p : ℕ) → recorded (at (d .nodes) p) ≡ recorded (at t p)) → Waits (sawSent (sent d) s) (d .coordinator .found) (phaseOf (d .coordinator .stand)) → Told s t Turn [] (sent d)
+  sent-tells d e listed misses whos wait = seen-tells Turn [] e (still-tells g listed misses whos (λ p. refl) (λ p. refl) (λ p. refl) wait)
 
   -- one that leaves the records as they were
   plain-tells : (d : Due) → d .says .number ≡ 0 → d .nodes ≡ t → Waits (sawSent (sent d) s) (d .coordinator .found) (phaseOf (d .coordinator .stand)) → Told s t Turn [] (sent d)
-  plain-tells d e same wait = sent-tells d e (λ p. ap (λ (u : List Node). listedAt u p) same) (λ p. ap (λ (u : List Node). at u p .misses) same) (λ p. ap (λ (u : List Node). at u p .mac) same) wait
+  plain-tells d e same wait = sent-tells d e (λ p. ap (λ (u : List Node). listedAt u p) same) (λ p. ap (λ (u : List Node). at u p .misses) same) (λ p. ap (λ (u : List Node). recorded (at u p)) same) wait
 
   list-tells : ltb 0 (owedTo c t) ≡ true → Told s t Turn [] (sent (dueList c t (owedTo c t)))
   unfolding choose
-  list-tells e = sent-tells (dueList c t (owedTo c t)) refl (λ p. change .listed p ∙ sym (changed-none (listedAt t) (owedTo c t) _ refl p)) (λ p. change .misses p ∙ sym (changed-none (λ q. at t q .misses) (owedTo c t) _ refl p)) (λ p. change .macs p ∙ sym (changed-none (λ q. at t q .mac) (owedTo c t) _ refl p)) (rw (phase-back (listing (owedTo c t))) (refl, (refl, refl)))
+  list-tells e = sent-tells (dueList c t (owedTo c t)) refl (λ p. change .listed p ∙ sym (changed-none (listedAt t) (owedTo c t) _ refl p)) (λ p. change .misses p ∙ sym (changed-none (λ q. at t q .misses) (owedTo c t) _ refl p)) (λ p. change .who p ∙ sym (changed-none (λ q. recorded (at t q)) (owedTo c t) _ refl p)) (rw (phase-back (listing (owedTo c t))) (refl, (refl, refl)))
     where
       board : Board c t (owedTo c t)
       board = board-listed c t h (owedTo c t) (owed-listed c t e)
 
-      change : Changes t (put t (owedTo c t) (unmarked (at t (owedTo c t)))) (owedTo c t) (listedAt t (owedTo c t)) (at t (owedTo c t) .misses) (at t (owedTo c t) .mac)
+      change : Changes t (put t (owedTo c t) (unmarked (at t (owedTo c t)))) (owedTo c t) (listedAt t (owedTo c t)) (at t (owedTo c t) .misses) (recorded (at t (owedTo c t)))
       change = put-changes t (owedTo c t) (unmarked (at t (owedTo c t))) (board .from) (inside c t h board) refl refl
 
   own-tells : Told s t Turn [] (sent (dueOwn c t))

@@ -18,7 +18,7 @@ use Rattle.board.specs.declared.Node.{Node}
 use Rattle.board.specs.Node.{isListed}
 use Rattle.board.specs.Table.{at, put, listedAt}
 use Rattle.board.specs.Change.{oweAll}
-use Rattle.board.proofs.Changes.{at-put, at-put-other, owe-all-keeps, owe-all-listed}
+use Rattle.board.proofs.Changes.{at-put, at-put-other, at-owe-all, owe-all-keeps, owe-all-listed}
 use Rattle.coordinator.specs.declared.Found.{Found}
 use Rattle.coordinator.specs.declared.Part.{Part}
 use Rattle.coordinator.specs.declared.Part.the-variants.{Search, IdentifyDue, Identify, Present, AssignDue, Assign}
@@ -31,7 +31,7 @@ use Rattle.coordinator.proofs.Fitting.{Board, fits-forty}
 use Rattle.steps.specs.declared.Event.{Event}
 use Rattle.steps.specs.After.{After, refused}
 use Rattle.series.specs.Series.{isAccepted, isSeek}
-use Rattle.series.specs.Observed.{Seen, changed, sawEvent}
+use Rattle.series.specs.Observed.{Who, recorded, Seen, changed, sawEvent}
 
 -- a wait of this kind, and no message to a board
 abbrev pub Seeks : ℕ → Seen → Type 0
@@ -55,11 +55,11 @@ Waits s f (ReturnDue board) = Unit {0}
 Waits s f (Seeking position part) = InPart s f part
 Waits s f Unknown = Unit {0}
 
--- the list is the table's, the run of each listed board is its misses, its MAC the record's, and the wait is the phase's
+-- the list is the table's, the run of each listed board is its misses, who it is is the record's, and the wait is the phase's
 pub record Agrees (s : Seen) (c : Coordinator) (t : List Node) : Type 0 where
   pub listed : (p : ℕ) → s .listed p ≡ listedAt t p
   pub run : (p : ℕ) → listedAt t p ≡ true → s .run p ≡ at t p .misses
-  pub mac : (p : ℕ) → listedAt t p ≡ true → s .mac p ≡ at t p .mac
+  pub who : (p : ℕ) → listedAt t p ≡ true → s .who p ≡ recorded (at t p)
   pub wait : Waits s (c .found) (phaseOf (c .stand))
 
 -- position p is listed in one table and not in the other
@@ -106,47 +106,47 @@ changed-none f b v e q = changed-case f b v q (λ x. f q ≡ x) (λ h. ap f h �
 pub inside : (c : Coordinator) (t : List Node) → fits c t ≡ true → {b : ℕ} → Board c t b → b ≤ length t
 inside c t h board = omega (arith, board .upTo, board .few, fits-forty c t h)
 
--- two tables that differ, in who is listed, in the misses and in the MACs, at position b only
-pub record Changes (t u : List Node) (b : ℕ) (l : Bool) (m n : ℕ) : Type 0 where
+-- two tables that differ, in who is listed, in the misses and in who each one is, at position b only
+pub record Changes (t u : List Node) (b : ℕ) (l : Bool) (m : ℕ) (n : Who) : Type 0 where
   pub listed : (p : ℕ) → listedAt u p ≡ changed (listedAt t) b l p
   pub misses : (p : ℕ) → at u p .misses ≡ changed (λ q. at t q .misses) b m p
-  pub macs : (p : ℕ) → at u p .mac ≡ changed (λ q. at t q .mac) b n p
+  pub who : (p : ℕ) → recorded (at u p) ≡ changed (λ q. recorded (at t q)) b n p
 
-pub put-changes : (t : List Node) (b : ℕ) (n : Node) {l : Bool} {m : ℕ} → 1 ≤ b → b ≤ length t → isListed n ≡ l → n .misses ≡ m → Changes t (put t b n) b l m (n .mac)
-put-changes t b n from upTo el em = record { listed = each-is isListed el; misses = each-is (λ m. m .misses) em; macs = each-is (λ m. m .mac) refl }
+pub put-changes : (t : List Node) (b : ℕ) (n : Node) {l : Bool} {m : ℕ} → 1 ≤ b → b ≤ length t → isListed n ≡ l → n .misses ≡ m → Changes t (put t b n) b l m (recorded n)
+put-changes t b n from upTo el em = record { listed = each-is isListed el; misses = each-is (λ m. m .misses) em; who = each-is recorded refl }
   where
     each-is : {A : Type 0} (f : Node → A) {v : A} → f n ≡ v → (p : ℕ) → f (at (put t b n) p) ≡ changed (λ q. f (at t q)) b v p
     each-is f {v} e p = changed-case (λ q. f (at t q)) b v p (λ x. f (at (put t b n) p) ≡ x) (λ here. ap f (ap (at (put t b n)) here ∙ at-put t b n from upTo) ∙ e) (λ ne. ap f (at-put-other t b p n ne))
 
 -- owing the list to all is no such change
-pub owe-changes : {t u : List Node} {b : ℕ} {l : Bool} {m n : ℕ} → Changes t u b l m n → Changes t (oweAll u) b l m n
-owe-changes {u = u} g = record { listed = λ p. owe-all-listed u p ∙ g .listed p; misses = λ p. owe-all-keeps u p .misses ∙ g .misses p; macs = λ p. owe-all-keeps u p .mac ∙ g .macs p }
+pub owe-changes : {t u : List Node} {b : ℕ} {l : Bool} {m : ℕ} {n : Who} → Changes t u b l m n → Changes t (oweAll u) b l m n
+owe-changes {u = u} g = record { listed = λ p. owe-all-listed u p ∙ g .listed p; misses = λ p. owe-all-keeps u p .misses ∙ g .misses p; who = λ p. ap recorded (at-owe-all u p) ∙ g .who p }
 
--- a change that is seen as it is made: who is listed, and the run and the MAC where the board stays listed
-pub record Sees (s s′ : Seen) (b : ℕ) (l : Bool) (v n : ℕ) : Type 0 where
+-- a change that is seen as it is made: who is listed, and the run and who it is where the board stays listed
+pub record Sees (s s′ : Seen) (b : ℕ) (l : Bool) (v : ℕ) (n : Who) : Type 0 where
   pub listed : (p : ℕ) → s′ .listed p ≡ changed (s .listed) b l p
   pub run : (p : ℕ) → s′ .run p ≡ changed (s .run) b v p
-  pub mac : (p : ℕ) → s′ .mac p ≡ changed (s .mac) b n p
+  pub who : (p : ℕ) → s′ .who p ≡ changed (s .who) b n p
 
 -- what is seen of a listed board is the record's after the change as it was before
-seen-changed : (t u : List Node) (b : ℕ) {l : Bool} (f : Node → ℕ) (old new : ℕ → ℕ) {v m : ℕ} → ((p : ℕ) → listedAt u p ≡ changed (listedAt t) b l p) → ((p : ℕ) → f (at u p) ≡ changed (λ q. f (at t q)) b m p) → ((p : ℕ) → new p ≡ changed old b v p) → ((p : ℕ) → listedAt t p ≡ true → old p ≡ f (at t p)) → (l ≡ true → v ≡ m) → (p : ℕ) → listedAt u p ≡ true → new p ≡ f (at u p)
+seen-changed : {A : Type 0} (t u : List Node) (b : ℕ) {l : Bool} (f : Node → A) (old new : ℕ → A) {v m : A} → ((p : ℕ) → listedAt u p ≡ changed (listedAt t) b l p) → ((p : ℕ) → f (at u p) ≡ changed (λ q. f (at t q)) b m p) → ((p : ℕ) → new p ≡ changed old b v p) → ((p : ℕ) → listedAt t p ≡ true → old p ≡ f (at t p)) → (l ≡ true → v ≡ m) → (p : ℕ) → listedAt u p ≡ true → new p ≡ f (at u p)
 seen-changed t u b {l} f old new {v} {m} listed held seen-as was same p h = seen-as p ∙ go (ℕ-discrete p b) ∙ sym (held p)
   where
     go : Dec (p ≡ b) → changed old b v p ≡ changed (λ q. f (at t q)) b m p
     go (yes e) = changed-here old b v p e ∙ same (sym (changed-here (listedAt t) b l p e) ∙ sym (listed p) ∙ h) ∙ sym (changed-here (λ q. f (at t q)) b m p e)
     go (no ne) = changed-other old b v p ne ∙ was p (sym (changed-other (listedAt t) b l p ne) ∙ sym (listed p) ∙ h) ∙ sym (changed-other (λ q. f (at t q)) b m p ne)
 
-pub agrees-changed : {s s′ : Seen} {c c′ : Coordinator} {t u : List Node} {b : ℕ} {l : Bool} {m n v x : ℕ} → Agrees s c t → Changes t u b l m n → (l ≡ true → v ≡ m) → (l ≡ true → x ≡ n) → Sees s s′ b l v x → Waits s′ (c′ .found) (phaseOf (c′ .stand)) → Agrees s′ c′ u
+pub agrees-changed : {s s′ : Seen} {c c′ : Coordinator} {t u : List Node} {b : ℕ} {l : Bool} {m v : ℕ} {n x : Who} → Agrees s c t → Changes t u b l m n → (l ≡ true → v ≡ m) → (l ≡ true → x ≡ n) → Sees s s′ b l v x → Waits s′ (c′ .found) (phaseOf (c′ .stand)) → Agrees s′ c′ u
 agrees-changed {s} {s′} {t = t} {u} {b} {l} g ch same alike sees wait =
     record {
       listed = λ p. sees .listed p ∙ ap (choose (eqb p b) l) (g .listed p) ∙ sym (ch .listed p);
       run = seen-changed t u b (λ n. n .misses) (s .run) (s′ .run) (ch .listed) (ch .misses) (sees .run) (g .run) same;
-      mac = seen-changed t u b (λ n. n .mac) (s .mac) (s′ .mac) (ch .listed) (ch .macs) (sees .mac) (g .mac) alike;
+      who = seen-changed t u b recorded (s .who) (s′ .who) (ch .listed) (ch .who) (sees .who) (g .who) alike;
       wait = wait;
     }
 
 -- so nobody leaves the list where the board at b stays or comes on it, and its run is not the one that comes from two to three
-pub listed-tells : {s s′ : Seen} {c : Coordinator} {t : List Node} {a : After} {b m n v x : ℕ} → Agrees s c t → Changes t (a .nodes) b true m n → v ≡ m → x ≡ n → (s .run b ≡ 2 → v ≡ 3 → ⊥) → Sees s s′ b true v x → Waits s′ (a .coordinator .found) (phaseOf (a .coordinator .stand)) → Tells s s′ t a
+pub listed-tells : {s s′ : Seen} {c : Coordinator} {t : List Node} {a : After} {b m v : ℕ} {n x : Who} → Agrees s c t → Changes t (a .nodes) b true m n → v ≡ m → x ≡ n → (s .run b ≡ 2 → v ≡ 3 → ⊥) → Sees s s′ b true v x → Waits s′ (a .coordinator .found) (phaseOf (a .coordinator .stand)) → Tells s s′ t a
 listed-tells {s} {s′} {t = t} {a} {b} {v = v} g ch same alike below sees wait = nobody-leaves (agrees-changed g ch (λ _. same) (λ _. alike) sees wait) stay never
   where
     stay : (p : ℕ) → listedAt t p ≡ true → listedAt (a .nodes) p ≡ true
@@ -155,10 +155,10 @@ listed-tells {s} {s′} {t = t} {a} {b} {v = v} g ch same alike below sees wait 
     never : (p : ℕ) → Thrice s s′ p → ⊥
     never p (two, three) = changed-case (s .run) b v p (λ x. x ≡ 3 → ⊥) (λ e m. below (sym (ap (s .run) e) ∙ two) m) (λ ne m. omega arith) (sym (sees .run p) ∙ three)
 
--- a step that leaves who is listed, the misses and the MACs as they were, and of which the same is seen
-pub still-tells : {s s′ : Seen} {c : Coordinator} {t : List Node} {a : After} → Agrees s c t → ((p : ℕ) → listedAt (a .nodes) p ≡ listedAt t p) → ((p : ℕ) → at (a .nodes) p .misses ≡ at t p .misses) → ((p : ℕ) → at (a .nodes) p .mac ≡ at t p .mac) → ((p : ℕ) → s′ .listed p ≡ s .listed p) → ((p : ℕ) → s′ .run p ≡ s .run p) → ((p : ℕ) → s′ .mac p ≡ s .mac p) → Waits s′ (a .coordinator .found) (phaseOf (a .coordinator .stand)) → Tells s s′ t a
-still-tells g listed misses macs l r n wait =
-    nobody-leaves (record { listed = λ p. l p ∙ g .listed p ∙ sym (listed p); run = λ p h. r p ∙ g .run p (sym (listed p) ∙ h) ∙ sym (misses p); mac = λ p h. n p ∙ g .mac p (sym (listed p) ∙ h) ∙ sym (macs p); wait = wait })
+-- a step that leaves who is listed, the misses and who each one is as they were, and of which the same is seen
+pub still-tells : {s s′ : Seen} {c : Coordinator} {t : List Node} {a : After} → Agrees s c t → ((p : ℕ) → listedAt (a .nodes) p ≡ listedAt t p) → ((p : ℕ) → at (a .nodes) p .misses ≡ at t p .misses) → ((p : ℕ) → recorded (at (a .nodes) p) ≡ recorded (at t p)) → ((p : ℕ) → s′ .listed p ≡ s .listed p) → ((p : ℕ) → s′ .run p ≡ s .run p) → ((p : ℕ) → s′ .who p ≡ s .who p) → Waits s′ (a .coordinator .found) (phaseOf (a .coordinator .stand)) → Tells s s′ t a
+still-tells g listed misses whos l r n wait =
+    nobody-leaves (record { listed = λ p. l p ∙ g .listed p ∙ sym (listed p); run = λ p h. r p ∙ g .run p (sym (listed p) ∙ h) ∙ sym (misses p); who = λ p h. n p ∙ g .who p (sym (listed p) ∙ h) ∙ sym (whos p); wait = wait })
     (λ p h. listed p ∙ h) (λ p e. omega (arith, r p))
 
 -- what is asked of a step that leaves a after this event with these bytes received: it is seen where it is accepted

@@ -7,3 +7,6 @@ pub mod AfterFrame
 pub mod AfterQuiet
 pub mod AfterDiscover
 pub mod WhoStays
+pub mod Noted
+pub mod Routed
+pub mod AsJoined

@@ -11,7 +11,7 @@ use Rattle.steps.specs.declared.Event.{Event}
 use Rattle.steps.specs.declared.Event.the-variants.{Join, Turn, Frame, Quiet, Discover}
 use Rattle.steps.specs.Step.{stepOf}
 use Rattle.series.specs.Series.{Input, World, Fresh, left, after}
-use Rattle.series.specs.Observed.{Seen, nothing, saw, seen}
+use Rattle.series.specs.Observed.{recorded, Seen, nothing, saw, seen}
 use Rattle.series.specs.Demand.{WhoStays}
 use Rattle.series.specs.Ours.{ours}
 use Rattle.lasting.proofs.Keeping.{isFit, step-fit}
@@ -42,7 +42,7 @@ step-tells {s} {w} g i = event-tells s (w .coordinator) (w .nodes) (g .fit) (g .
 
 -- it holds at a fresh start, where nobody is listed, and after any series of steps
 started-holds : {w : World} (k : ℕ) → Started k w → Holds nothing w
-started-holds {w} k f = record { fit = f .fit; agrees = record { listed = λ p. ap isListed (sym (f .free p)); run = λ p l. ap (λ (n : Node). n .misses) (sym (f .free p)); mac = λ p l. ap (λ (n : Node). n .mac) (sym (f .free p)); wait = rw (f .phase) tt } }
+started-holds {w} k f = record { fit = f .fit; agrees = record { listed = λ p. ap isListed (sym (f .free p)); run = λ p l. ap (λ (n : Node). n .misses) (sym (f .free p)); who = λ p l. ap recorded (sym (f .free p)); wait = rw (f .phase) tt } }
 
 step-holds : {s : Seen} {w : World} → Holds s w → (i : Input) → Holds (saw i (ours .step w i) s) (left (ours .step w i))
 step-holds {s} {w} g i = record { fit = step-fit w i (g .fit); agrees = step-tells g i .agrees }
@@ -59,7 +59,6 @@ pub who-stays : WhoStays ours
 who-stays =
     record {
       told = λ k w f is p. holds k w f is .agrees .listed p;
-      macs = λ k w f is p. holds k w f is .agrees .mac p;
       only = λ k w f is i p. step-tells (holds k w f is) i .only p;
       then = λ k w f is i p. step-tells (holds k w f is) i .then p;
     }

@@ -1,22 +1,22 @@
--- The laws of what a join chooses: the position and the record of a listed MAC, or the lowest free position and a new record (01, "Join").
+-- The laws of what a join chooses: the position of a listed MAC, or the lowest free one (01, "Join").
 use Prim.Native.Nat.{ℕ, _≤_, _<_}
 use native.Mathlib.Omega.{arith}
-use mathlib.Core.Path.{_≡_, refl, sym, ap, _∙_}
-use mathlib.Core.Bool.{Bool, true, false, not}
+use mathlib.Core.Path.{_≡_, refl, sym, _∙_}
+use mathlib.Core.Bool.{Bool, true, false}
 use mathlib.Core.List.{List}
-use lib.Dec.{eqb, ltb}
-use borrow.Author.Tests.{eqb-true, lt-ltb, le-ltb, ltb-true, ltb-false}
-use Rattle.ground.proofs.Choices.{choose-yes, choose-no, and-left, and-right}
+use lib.Dec.{ltb}
+use borrow.Author.Tests.{eqb-true, eq-eqb, lt-ltb, le-ltb, ltb-true, ltb-false}
+use Rattle.ground.proofs.Choices.{choose-yes, choose-no, and-left, and-right, both}
 use Rattle.board.specs.declared.Node.{Node}
 use Rattle.board.specs.declared.Wanted.the-variants.{Mac, Free}
-use Rattle.board.specs.Node.{isListed, isKind}
 use Rattle.board.specs.Table.{at, listedAt}
 use Rattle.board.specs.Wanted.{lowestOf}
-use Rattle.board.specs.Change.{joinedNode, heard, renewed}
-use Rattle.board.proofs.LowestWanted.{lowest-wanted}
-use Rattle.setup.specs.Fitness.{Position}
+use Rattle.board.proofs.LowestWanted.{lowest-wanted, lowest-found}
+use Rattle.setup.specs.Fitness.{Position, Listed, FitTable}
 use Rattle.setup.proofs.Places.{lowest-place}
-use Rattle.steps.specs.Join.{known, chosen, joining}
+use Rattle.setup.proofs.Apart.{one-answers}
+use Rattle.coordinator.proofs.Fitting.{listed-told, listed-passes}
+use Rattle.steps.specs.Join.{known, chosen}
 
 module _ (t : List Node) (k mac : ℕ) where
   -- what holds where the MAC is listed and where it is new
@@ -28,7 +28,7 @@ module _ (t : List Node) (k mac : ℕ) where
       go false e = g (ltb-false 0 (known t k mac) e)
 
   -- the position chosen is a listed MAC's own, else the lowest free one
-  pub chosen-known : 0 < known t k mac → chosen t k mac ≡ known t k mac
+  chosen-known : 0 < known t k mac → chosen t k mac ≡ known t k mac
   chosen-known l = sym (choose-yes (ltb 0 (known t k mac)) _ _ (lowestOf t Free k) (lt-ltb 0 (known t k mac) l) refl)
 
   pub chosen-new : known t k mac ≤ 0 → chosen t k mac ≡ lowestOf t Free k
@@ -42,22 +42,16 @@ module _ (t : List Node) (k mac : ℕ) where
       (λ l. rw (chosen-new l) (lowest-place t Free k (omega (arith, ne, chosen-new l))))
 
   -- a listed MAC's position is listed, and has that MAC
-  pub known-listed : 0 < known t k mac → listedAt t (known t k mac) ≡ true
+  known-listed : 0 < known t k mac → listedAt t (known t k mac) ≡ true
   known-listed l = and-left (listedAt t (known t k mac)) _ (lowest-wanted t (Mac mac) k l .passes)
 
-  pub known-mac : 0 < known t k mac → at t (known t k mac) .mac ≡ mac
+  known-mac : 0 < known t k mac → at t (known t k mac) .mac ≡ mac
   known-mac l = eqb-true (at t (known t k mac) .mac) mac (and-right (listedAt t (known t k mac)) _ (lowest-wanted t (Mac mac) k l .passes))
 
-  -- the record that joins is that position's, heard and with another session, else a new one
-  module _ (kind session : ℕ) where
-    pub joining-known : 0 < known t k mac → joining t k kind mac session ≡ renewed (heard (at t (known t k mac))) session
-    joining-known l = sym (choose-yes (ltb 0 (known t k mac)) _ _ (joinedNode kind mac session) (lt-ltb 0 (known t k mac) l) refl)
-
-    joining-new : known t k mac ≤ 0 → joining t k kind mac session ≡ joinedNode kind mac session
-    joining-new l = sym (choose-no (ltb 0 (known t k mac)) _ (renewed (heard (at t (known t k mac))) session) _ (le-ltb 0 (known t k mac) l) refl)
-
-    pub joining-listed : isKind kind ≡ true → isListed (joining t k kind mac session) ≡ true
-    joining-listed h = by-known _ (λ l. ap isListed (joining-known l) ∙ known-listed l) (λ l. ap isListed (joining-new l) ∙ and-left (not (eqb kind 0)) _ h)
-
-    pub joining-mac : joining t k kind mac session .mac ≡ mac
-    joining-mac = by-known _ (λ l. ap (λ (n : Node). n .mac) (joining-known l) ∙ known-mac l) (λ l. ap (λ (n : Node). n .mac) (joining-new l))
+  -- in a fit table nobody else answers to a listed MAC: a board that comes back has its own position chosen
+  pub chosen-own : k ≤ 40 → FitTable k t → (q : ℕ) → Listed t q → at t q .mac ≡ mac → chosen t k mac ≡ q
+  chosen-own few f q l m =
+      chosen-known here ∙ one-answers k t f mac (known t k mac) q (listed-told t (known t k mac) (known-listed here)) l (known-mac here) m
+    where
+      here : 0 < known t k mac
+      here = lowest-found t (Mac mac) k q (both (listedAt t q) _ (listed-passes t q l) (eq-eqb (at t q .mac) mac m)) (f .within q l .from) (omega (arith, f .within q l .upTo, few)) .from

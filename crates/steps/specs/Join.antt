@@ -10,9 +10,9 @@ use Rattle.refusal.specs.declared.Refusal.the-variants.{StateUnfit, BadType, Ba
 use Rattle.board.specs.declared.Node.{Node}
 use Rattle.board.specs.declared.Wanted.the-variants.{Owed, Mac, Free}
 use Rattle.board.specs.Node.{isKind, isMac}
-use Rattle.board.specs.Table.{at, put}
+use Rattle.board.specs.Table.{put}
 use Rattle.board.specs.Wanted.{lowestOf}
-use Rattle.board.specs.Change.{joinedNode, heard, renewed, oweAll}
+use Rattle.board.specs.Change.{joinedNode, oweAll}
 use Rattle.coordinator.specs.declared.Coordinator.{Coordinator}
 use Rattle.coordinator.specs.declared.Phase.{Phase}
 use Rattle.coordinator.specs.declared.Phase.the-variants.{Resting, Awaiting, ForwardDue, ReturnDue, Seeking, Unknown}
@@ -52,17 +52,12 @@ joinRules c t kind mac =
     (eqb (c .held) 1, Held) ∷
     (eqb (chosen t (c .setup .k) mac) 0, Full) ∷ []
 
--- the record of the board that joins: a new one, or the listed one with its session replaced and misses 0, its type as on record (01, "Join")
-abbrev pub joining : List Node → ℕ → ℕ → ℕ → ℕ → Node
-joining t k kind mac session =
-    choose (ltb 0 (known t k mac)) (renewed (heard (at t (known t k mac))) session) (joinedNode kind mac session)
-
--- either way the list is owed to every listed board, and further joins are held (01, "Join")
+-- its record is that of its last join, its type too, whether it was listed or not (02, C-12); either way the list is owed to every listed board, and further joins are held (01, "Join")
 abbrev pub joinedAs : Coordinator → List Node → ℕ → ℕ → ℕ → After
 joinedAs c t kind mac session =
     record {
       coordinator = holding c true;
-      nodes = oweAll (put t (chosen t (c .setup .k) mac) (joining t (c .setup .k) kind mac session));
+      nodes = oweAll (put t (chosen t (c .setup .k) mac) (joinedNode kind mac session));
       says = rests;
       bytes = [];
       joined = chosen t (c .setup .k) mac;

@@ -13,7 +13,7 @@ use Rattle.board.specs.declared.Node.{Node}
 use Rattle.board.specs.declared.Wanted.the-variants.{Listed, Owed}
 use Rattle.board.specs.Table.{put}
 use Rattle.board.specs.Wanted.{lowestOf, countOf}
-use Rattle.board.specs.Change.{oweAll}
+use Rattle.board.specs.Change.{joinedNode, oweAll}
 use Rattle.board.proofs.Counts.{count-put-most, count-owe-all, owed-listed}
 use Rattle.coordinator.specs.declared.Coordinator.{Coordinator}
 use Rattle.coordinator.specs.declared.Phase.{Phase}
@@ -23,7 +23,7 @@ use Rattle.coordinator.specs.Fit.{fits}
 use Rattle.coordinator.specs.Change.{holding}
 use Rattle.coordinator.proofs.Fitting.{fits-forty}
 use Rattle.steps.specs.After.{After, refused}
-use Rattle.steps.specs.Join.{isResting, isBusy, chosen, joining, joinRules, joinedAs, joinOf}
+use Rattle.steps.specs.Join.{isResting, isBusy, chosen, joinRules, joinedAs, joinOf}
 use Rattle.turns.specs.Potential.{underWay, potential}
 use Rattle.turns.proofs.Numbers.{ahead-join}
 use Rattle.turns.proofs.Moves.{Moves, Works, works, guarded, plain-rests, listed-most}
@@ -62,7 +62,7 @@ module _ (c : Coordinator) (t : List Node) (h : fits c t ≡ true) where
   module _ (kind mac session : ℕ) where
     -- it is work
     join-works : Passed (joinRules c t kind mac) → Works c t (joinedAs c t kind mac session)
-    join-works passed = record { said = refl; nobody = plain-rests .1; last = refl; falls = λ f n m. join-falls (chosen t (c .setup .k) mac) (joining t (c .setup .k) kind mac session) (idle (passed .1 .1 .1 .0)) (passed .1 .1 .1 .1 .0) f n }
+    join-works passed = record { said = refl; nobody = plain-rests .1; last = refl; falls = λ f n m. join-falls (chosen t (c .setup .k) mac) (joinedNode kind mac session) (idle (passed .1 .1 .1 .0)) (passed .1 .1 .1 .1 .0) f n }
 
     -- so a join is a refusal, or work
     pub join-moves : Moves c t (joinOf c t kind mac session)

@@ -5,18 +5,21 @@ use mathlib.Core.Path.{_≡_, sym, ap, _∙_}
 use mathlib.Core.Logic.{_⊎_, inl, inr}
 use mathlib.Core.Bool.{true, false, true≢false, false≢true}
 use mathlib.Core.List.{List, []}
-use lib.ListN.{length}
+use lib.ListN.{length, getD}
 use lib.Dec.{eqb, leb}
 use borrow.Author.Tests.{eqb-false, leb-true}
 use Rattle.ground.specs.Below.{among}
-use Rattle.frame.specs.Frame.{headerOf}
+use Rattle.frame.specs.Frame.{headerOf, payloadOf}
 use Rattle.board.specs.Node.{isKind, isMac}
 use Rattle.board.specs.Table.{at, listedAt}
-use Rattle.board.specs.Wanted.{someListed}
+use Rattle.board.specs.Wanted.{someListed, indexOf}
 use Rattle.setup.specs.Setup.{isPool}
-use Rattle.series.specs.Series.{left, Input, World, Panel, Fresh, after, isAccepted, offers, accepted, stays}
-use Rattle.series.specs.Observed.{nothing, saw, seen}
-use Rattle.series.specs.Demand.{WhoStays, NoTwoAlike, RoundRobin, Bounded, NeverStuck, Transmits, EndsWait, bound, joinWith, turnWith, quietWith, Starts, Allowed, TakesJoins}
+use Rattle.nodelist.specs.List.{nodeList}
+use Rattle.accept.specs.Accept.{requestType}
+use Rattle.series.specs.Series.{left, Input, World, Panel, Fresh, after, isAccepted, waitedFor, waitsIn, offers, accepted, stays}
+use Rattle.series.specs.Observed.{Who, nothing, saw, seen}
+use Rattle.series.specs.Demand.{WhoStays, NoTwoAlike, RoundRobin, Bounded, NeverStuck, Transmits, EndsWait, bound, joinWith, frameWith, turnWith, quietWith, Starts, Allowed, TakesJoins}
+use Rattle.series.specs.AsJoined.{noted, isOwn, forwardedTo, destined, AsJoined}
 use Rattle.series.specs.Exchange.{Runs, comes, reached, isRunning, OneJoin, discoveries, peopled, Seldom}
 use Rattle.series.specs.Wire.{isSending, addressed, OnTheWire}
 
@@ -64,6 +67,20 @@ module _ {P : Panel} {k : ℕ} {w : World} (f : Fresh P k w) (is : List Input) w
   -- two positions are listed with one MAC
   pub alike : (p q mac : ℕ) → eqb p q ≡ false → listedAt (after P w is .nodes) p ≡ true → listedAt (after P w is .nodes) q ≡ true → at (after P w is .nodes) p .mac ≡ mac → at (after P w is .nodes) q .mac ≡ mac → NoTwoAlike P → ⊥
   alike p q mac apart here there one other s = eqb-false p q apart (s .macs k w f is p q here there (one ∙ sym other))
+
+  -- a listed board has another type than its last join told
+  pub mistyped : (p : ℕ) → listedAt (after P w is .nodes) p ≡ true → eqb (at (after P w is .nodes) p .kind) (seen P w nothing is .who p .kind) ≡ false → AsJoined P → ⊥
+  mistyped p listed apart s = eqb-false _ _ apart (ap (λ (x : Who). x .kind) (s .who k w f is p listed))
+
+  -- byte p of a list is another than the joins told; so is the index in an offer or a list; so is the board to which a request goes
+  pub mislisted : (p : ℕ) → waitsIn (P .step (after P w is) (turnWith 252) .says) ≡ 2 → eqb (getD (payloadOf (P .step (after P w is) (turnWith 252) .bytes)) p 0) (getD (nodeList (after P w is .coordinator .setup .internal) (noted (seen P w nothing is))) p 0) ≡ false → AsJoined P → ⊥
+  mislisted p lists apart s = eqb-false _ _ apart (ap (λ (bytes : List ℕ). getD bytes p 0) (s .list k w f is 252 lists))
+
+  pub misindexed : isOwn (P .step (after P w is) (turnWith 252) .says) ≡ true → eqb (headerOf (P .step (after P w is) (turnWith 252) .bytes) .parameter2) (indexOf (noted (seen P w nothing is)) (waitedFor (P .step (after P w is) (turnWith 252) .says))) ≡ false → AsJoined P → ⊥
+  misindexed own apart s = eqb-false _ _ apart (s .index k w f is 252 own)
+
+  pub misrouted : (received : List ℕ) → requestType (headerOf received .message) ≡ true → isAccepted (P .step (after P w is) (frameWith received 252) .says) ≡ true → isAccepted (P .step (left (P .step (after P w is) (frameWith received 252))) (turnWith 252) .says) ≡ true → eqb (forwardedTo (P .step (left (P .step (after P w is) (frameWith received 252))) (turnWith 252) .says)) (destined (seen P w nothing is) (after P w is .coordinator .setup .k) (headerOf received)) ≡ false → AsJoined P → ⊥
+  misrouted received request taken turned apart s = eqb-false _ _ apart (s .route k w f is received 252 252 request taken turned)
 
   -- an exchange that goes on through a series has joined twice
   pub joins-again : (d : Input) (js : List Input) → Runs P (after P w is) d js → comes P (after P w is) d js .joins ≡ 2 → OneJoin P → ⊥

@@ -3,7 +3,7 @@ use Prim.Native.Nat.{ℕ}
 use Rattle.ground.specs.Choose.{choose}
 use Rattle.ground.specs.Below.{all, some, count, upFrom, firstOr, highest, among}
 use Rattle.fletcher.specs.Fletcher.{sumsFrom}
-use Rattle.frame.specs.Frame.{reading, frameOf}
+use Rattle.frame.specs.Frame.{reading, payloadOf, frameOf}
 use Rattle.word.specs.Words.{bytesOf, valueOf, wordAt}
 use Rattle.board.specs.Table.{at, put}
 use Rattle.board.specs.Wanted.{lowestOf, highestListed, indexOf, someListed}
@@ -12,6 +12,8 @@ use Rattle.board.specs.Change.{oweAll}
 use Rattle.setup.specs.Setup.{arePool, address, setupFits}
 use Rattle.setup.specs.Fit.{recordFits, areApart, tableFits}
 use Rattle.nodelist.specs.List.{nodeList, sameByte, sameList}
+use Rattle.routing.specs.Route.{hasKind, priorityKind, atSocket, namedPosition, routeOf}
+use Rattle.routing.specs.Priority.{priorityList}
 use Rattle.message.specs.Message.{toBoard, ownHeader, signed, broadcastHeader, assignment}
 use Rattle.accept.specs.Accept.{isAck, heardAfterOffer, heardAfterList, heardAfterForward, heardAfterReturn}
 use Rattle.accept.specs.Replies.{heardInSearch, heardInIdentify, isAssignment, heardInAssign}
@@ -25,8 +27,9 @@ use Rattle.steps.specs.Quiet.{quietIn}
 use Rattle.steps.specs.Discover.{discoverOf}
 use Rattle.series.specs.Series.{after, offers, accepted, stays}
 use Rattle.series.specs.Observed.{seen}
+use Rattle.series.specs.AsJoined.{noted}
 use Rattle.series.specs.Exchange.{goesOn, course, discoveries, peopled}
 
 unfoldable pub opened : ℕ
-unfolding choose all some count upFrom firstOr highest among sumsFrom reading frameOf bytesOf valueOf wordAt at put lowestOf highestListed indexOf someListed round nextListed oweAll arePool address setupFits recordFits areApart tableFits nodeList sameByte sameList toBoard ownHeader signed broadcastHeader assignment isAck heardAfterOffer heardAfterList heardAfterForward heardAfterReturn heardInSearch heardInIdentify isAssignment heardInAssign phaseOf standOf phaseFits holdFits fits startOf joinOf turnIn receiveIn quietIn discoverOf after offers accepted stays seen goesOn course discoveries peopled
+unfolding choose all some count upFrom firstOr highest among sumsFrom reading payloadOf frameOf bytesOf valueOf wordAt at put lowestOf highestListed indexOf someListed round nextListed oweAll arePool address setupFits recordFits areApart tableFits nodeList sameByte sameList hasKind priorityKind atSocket namedPosition routeOf priorityList toBoard ownHeader signed broadcastHeader assignment isAck heardAfterOffer heardAfterList heardAfterForward heardAfterReturn heardInSearch heardInIdentify isAssignment heardInAssign phaseOf standOf phaseFits holdFits fits startOf joinOf turnIn receiveIn quietIn discoverOf after offers accepted stays seen noted goesOn course discoveries peopled
 opened = 0

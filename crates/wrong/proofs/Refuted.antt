@@ -1,16 +1,18 @@
 -- Each wrong panel breaks a statement of demand 3. The facts about its series, each `refl`, are computed.
 use native.Mathlib.Omega.{arith}
 use mathlib.Core.Path.{refl}
-use mathlib.Core.List.{[], _∷_}
+use mathlib.Core.List.{[], _∷_, _++_}
+use Rattle.steps.specs.declared.Event.the-variants.{Join, Frame}
 use Rattle.steps.specs.After.{After}
 use Rattle.series.specs.Series.{Input, World, Fresh, fresh-start}
 use Rattle.series.specs.Demand.{WhoStays, NoTwoAlike, FitForEver, RoundRobin, Bounded, NeverStuck, Starts, TakesJoins}
+use Rattle.series.specs.AsJoined.{AsJoined}
 use Rattle.series.specs.Exchange.{OneJoin, Seldom}
 use Rattle.series.specs.Wire.{OnTheWire}
-use Rattle.wrong.specs.Wrong.{stepping, quietDoesNothing, quietChangesNothing, quietNeverDrops, offersOneBoard, onlyLooksBusy, waitsForEver, countsSinceJoining, restartsRound, hearsAnyone, listsTwice, joinsTwice, joinsInside, missesInAssign, discoversAgain, tellsAnother, takesNoSetup, takesNoJoin}
-use Rattle.wrong.specs.Trial.{before, begun, one, two, turn, quiet, missesTwice, answersBetween, anotherBetween, listed, eighteenQuiets, offeredOnce, joinsAgain, firstRound, nineLists, bothJoin, twoOffers, joinedOnce, listedOnce, discover, secondFound, firstFound, twoDiscoveries}
+use Rattle.wrong.specs.Wrong.{stepping, quietDoesNothing, quietChangesNothing, quietNeverDrops, offersOneBoard, onlyLooksBusy, waitsForEver, countsSinceJoining, restartsRound, hearsAnyone, listsTwice, keepsType, joinsTwice, joinsInside, missesInAssign, discoversAgain, tellsAnother, takesNoSetup, takesNoJoin}
+use Rattle.wrong.specs.Trial.{before, begun, one, two, turn, quiet, missesTwice, answersBetween, anotherBetween, listed, eighteenQuiets, offeredOnce, joinsAgain, retyped, retypedBelow, asksForType, firstRound, nineLists, bothJoin, twoOffers, joinedOnce, listedOnce, discover, secondFound, firstFound, foundRetyped, twoDiscoveries}
 use Rattle.wrong.proofs.Opened.{opened}
-use Rattle.wrong.proofs.Laws.{outstays, leaves-early, leaves-unasked, passed-over, starved, stuck, lingers, alike, joins-again, joins-inside, discovers-often, misdirected, turned-away, not-started}
+use Rattle.wrong.proofs.Laws.{outstays, leaves-early, leaves-unasked, passed-over, starved, stuck, lingers, alike, mistyped, mislisted, misindexed, misrouted, joins-again, joins-inside, discovers-often, misdirected, turned-away, not-started}
 
 -- a fresh start with one address, and with two
 from-one : {step : World → Input → After} → Fresh (stepping step) 1 (begun one)
@@ -75,6 +77,28 @@ lists-twice-refuted = alike from-two joinsAgain 1 2 7 refl refl refl refl refl
 pub lists-twice-unfit : FitForEver listsTwice → ⊥
 unfolding opened
 lists-twice-unfit s = s 2 (begun two) from-two joinsAgain turn refl
+
+-- a furnace that joins again as an air handler is a furnace still; so is one that is found by a discovery
+pub keeps-type-refuted : AsJoined (keepsType (Join 0 0 0)) → ⊥
+unfolding opened
+keeps-type-refuted = mistyped from-one retyped 1 refl refl
+
+pub keeps-type-found-refuted : AsJoined (keepsType Frame) → ⊥
+unfolding opened
+keeps-type-found-refuted = mistyped from-two foundRetyped 1 refl refl
+
+-- and whoever looks at no record sees it: in the list, in the index of the air handler above it, and where a request for an air handler goes
+pub keeps-type-listed : AsJoined (keepsType (Join 0 0 0)) → ⊥
+unfolding opened
+keeps-type-listed = mislisted from-one retyped 1 refl refl
+
+pub keeps-type-indexed : AsJoined (keepsType (Join 0 0 0)) → ⊥
+unfolding opened
+keeps-type-indexed = misindexed from-two retypedBelow refl refl
+
+pub keeps-type-routed : AsJoined (keepsType (Join 0 0 0)) → ⊥
+unfolding opened
+keeps-type-routed = misrouted from-two (retypedBelow ++ turn ∷ []) asksForType refl refl refl refl
 
 -- a board that is found joins by its answer to the discovery, and again by its Set Address Response
 pub joins-twice-refuted : OneJoin joinsTwice → ⊥

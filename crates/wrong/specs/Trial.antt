@@ -2,10 +2,10 @@
 use Prim.Native.Nat.{ℕ}
 use mathlib.Core.List.{List, [], _∷_, _++_}
 use Rattle.coordinator.specs.Fresh.{fresh, blankTable}
-use Rattle.steps.specs.declared.Event.the-variants.{Join, Frame, Discover}
+use Rattle.steps.specs.declared.Event.the-variants.{Join, Discover}
 use Rattle.steps.specs.Start.{setupOf}
 use Rattle.series.specs.Series.{Input, World, left}
-use Rattle.series.specs.Demand.{turnWith, quietWith}
+use Rattle.series.specs.Demand.{frameWith, turnWith, quietWith}
 use Rattle.series.specs.Ours.{ours}
 
 -- the world before setup, and after one with this pool: subnet 3, internal type 1, MAC 9, session 4
@@ -33,7 +33,7 @@ abbrev pub joins : ℕ → ℕ → Input
 joins kind mac = record { event = Join kind mac 1; received = []; room = 252 }
 
 abbrev pub hears : List ℕ → Input
-hears bytes = record { event = Frame; received = bytes; room = 252 }
+hears bytes = frameWith bytes 252
 
 -- the board at address 2, of type 2 with MAC 7 and session 1: it joins, its ACK (003, Table 49), its echo of the list of itself alone (003, Table 31)
 abbrev pub first : Input
@@ -89,6 +89,19 @@ joinedOnce = offeredOnce ++ quiet ∷ []
 abbrev pub joinsAgain : List Input
 joinsAgain = offeredOnce ++ quiet ∷ first ∷ []
 
+-- it joins again as another type, 3
+abbrev pub retyped : List Input
+retyped = joinedOnce ++ joins 3 7 ∷ []
+
+-- a second board, at address 5, is of type 3 from the beginning; the first joins again as that type, and the next offer is the second's
+abbrev pub retypedBelow : List Input
+retypedBelow =
+    first ∷ turn ∷ quiet ∷ turn ∷ ack ∷ joins 3 8 ∷ turn ∷ quiet ∷ turn ∷ quiet ∷ turn ∷ request ∷ joins 3 7 ∷ turn ∷ quiet ∷ turn ∷ quiet ∷ turn ∷ quiet ∷ []
+
+-- its request for a board of type 3: type 1 with method 2
+abbrev pub asksForType : List ℕ
+asksForType = 255 ∷ 5 ∷ 3 ∷ 2 ∷ 3 ∷ 0 ∷ 3 ∷ 1 ∷ 0 ∷ 0 ∷ 37 ∷ 31 ∷ []
+
 -- it has had its list and an offer; nine lists more
 abbrev pub firstRound : List Input
 firstRound = first ∷ turn ∷ echo ∷ turn ∷ ack ∷ []
@@ -130,6 +143,18 @@ secondFound = secondAnswers ∷ turn ∷ quiet ∷ turn ∷ secondTakes ∷ []
 -- the first board misses twice, and answers a discovery; nobody answers at its own address, and it is given it again
 abbrev pub firstFound : List Input
 firstFound = first ∷ turn ∷ quiet ∷ turn ∷ quiet ∷ discover ∷ firstAnswers ∷ turn ∷ quiet ∷ turn ∷ []
+
+-- the first board answers a discovery as another type, 3, and takes its own address again (003, Tables 58 and 60)
+abbrev pub anotherAnswers : Input
+anotherAnswers =
+    hears (255 ∷ 0 ∷ 0 ∷ 0 ∷ 0 ∷ 0 ∷ 3 ∷ 249 ∷ 0 ∷ 18 ∷ 3 ∷ 0 ∷ 7 ∷ 0 ∷ 0 ∷ 0 ∷ 0 ∷ 0 ∷ 0 ∷ 0 ∷ 1 ∷ 0 ∷ 0 ∷ 0 ∷ 0 ∷ 0 ∷ 0 ∷ 0 ∷ 198 ∷ 116 ∷ [])
+
+abbrev pub anotherTakes : Input
+anotherTakes =
+    hears (255 ∷ 2 ∷ 3 ∷ 0 ∷ 0 ∷ 0 ∷ 3 ∷ 250 ∷ 0 ∷ 19 ∷ 2 ∷ 3 ∷ 7 ∷ 0 ∷ 0 ∷ 0 ∷ 0 ∷ 0 ∷ 0 ∷ 0 ∷ 1 ∷ 0 ∷ 0 ∷ 0 ∷ 0 ∷ 0 ∷ 0 ∷ 0 ∷ 1 ∷ 32 ∷ 17 ∷ [])
+
+abbrev pub foundRetyped : List Input
+foundRetyped = joinedOnce ++ discover ∷ anotherAnswers ∷ turn ∷ quiet ∷ turn ∷ anotherTakes ∷ []
 
 -- two discoveries that nobody answers
 abbrev pub twoDiscoveries : List Input

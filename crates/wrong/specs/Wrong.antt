@@ -1,4 +1,4 @@
--- Wrong panels, each ours with one change: the errors that the rule book names (01, "Agreement between code and promise" and "Errors that look reasonable"), and those that a discovery makes possible (02, C-11).
+-- Wrong panels, each ours with one change: the errors that the rule book names (01, "Agreement between code and promise" and "Errors that look reasonable"), and those that discovery and retyping make possible (02, C-11 and C-12).
 use Prim.Native.Nat.{ℕ, _+_}
 use mathlib.Core.Bool.{Bool, _&&_}
 use mathlib.Core.List.{List, []}
@@ -9,7 +9,7 @@ use Rattle.refusal.specs.declared.Refusal.the-variants.{NotWaiting, BadPool, Fu
 use Rattle.frame.specs.Frame.{headerOf}
 use Rattle.board.specs.declared.Node.{Node}
 use Rattle.board.specs.declared.Wanted.the-variants.{Listed, Free}
-use Rattle.board.specs.Table.{at, put}
+use Rattle.board.specs.Table.{at, put, listedAt}
 use Rattle.board.specs.Wanted.{lowestOf}
 use Rattle.board.specs.Change.{joinedNode, oweAll}
 use Rattle.coordinator.specs.declared.Coordinator.{Coordinator}
@@ -123,6 +123,21 @@ joinedAnew w a = oweAll (put (w .nodes) (lowestOf (w .nodes) Free (w .coordinato
 -- against "A listed MAC has its address again" (01, "Join"): it gets the lowest free position, as a new one does
 abbrev pub listsTwice : Panel
 listsTwice = changedAt (Join 0 0 0) (λ w i a. choose (isAccepted (a .says)) (leaving a (a .coordinator) (joinedAnew w a)) a)
+
+-- board p with the type that it had before, where it was listed
+abbrev typeKept : List Node → List Node → ℕ → Node
+typeKept before t p =
+    record {
+      kind = choose (listedAt before p) (at before p .kind) (at t p .kind);
+      mac = at t p .mac;
+      session = at t p .session;
+      misses = at t p .misses;
+      owed = at t p .owed;
+    }
+
+-- against "a join with a listed MAC also replaces the type" (02, C-12): in this kind of step the board that joins keeps the type on record
+abbrev pub keepsType : Event → Panel
+keepsType event = changedAt event (λ w i a. leaving a (a .coordinator) (put (a .nodes) (a .joined) (typeKept (w .nodes) (a .nodes) (a .joined))))
 
 -- the panel is in this part of the exchange by which a board joins (02, C-11)
 abbrev isIn : Part → World → Bool

@@ -2,6 +2,7 @@
 
 use super::discoveries;
 use super::required::named;
+use super::retypings::retyped;
 use crate::frame;
 use crate::line::{Kind, Line};
 use crate::panel::Panel;
@@ -38,7 +39,7 @@ pub fn case(before: &Panel, line: &str, head: &str, after: &Panel) -> String {
     }
     let detail = match (step(line), head) {
         ("setup", "ready") => pool(after),
-        ("join", "rest joined") => joined_how(before, line).to_string(),
+        ("join", "rest joined") => joined_how(before, line, after).to_string(),
         ("join" | "discover", "refuse 14") => busy_with(before),
         ("join" | "discover", "refuse 16") => pool(before),
         ("turn", "refuse 11") => due(before).to_string(),
@@ -68,6 +69,9 @@ pub fn further(before: &Panel, line: &str, answer: &str, after: &Panel) -> Vec<S
         }
         ("frame", "transmit joined") if gap_filled(before, after) => {
             cases.push("a position freed was taken again, by discovery".to_string());
+        }
+        ("join", "refuse 12") if listed_at(before, line).is_some() => {
+            cases.push("join: refuse 12, a listed MAC".to_string());
         }
         _ => (),
     }
@@ -105,12 +109,18 @@ pub fn waiting(panel: &Panel) -> Option<&'static str> {
     panel.coordinator.phase.awaited().map(|(_, exchange)| exchange.name())
 }
 
-fn joined_how(before: &Panel, line: &str) -> &'static str {
-    let mac = line.split(' ').nth(2).and_then(|word| word.parse().ok());
-    match mac.and_then(|mac| before.position_of(mac)) {
-        Some(_) => "came back",
+fn joined_how(before: &Panel, line: &str, after: &Panel) -> &'static str {
+    match listed_at(before, line) {
+        Some(at) if retyped(before, at, after) => "came back as something else",
+        Some(_) => "came back as it was",
         None => "new",
     }
+}
+
+/// The position of the board that a `join` line names, if it is listed.
+fn listed_at(before: &Panel, line: &str) -> Option<usize> {
+    let mac = line.split(' ').nth(2).and_then(|word| word.parse().ok());
+    mac.and_then(|mac| before.position_of(mac))
 }
 
 /// Whether a board was listed below one that was there.
@@ -144,8 +154,8 @@ fn accepted_how(before: &Panel, line: &str, after: &Panel) -> String {
         Phase::ForwardDue { .. } => "passed on",
         _ => "discarded",
     };
-    match request_method(line) {
-        Some(method) => format!("{wait}, method {method}, {fate}"),
+    match request(line) {
+        Some((method, _)) => format!("{wait}, method {method}, {fate}"),
         None => wait.to_string(),
     }
 }
@@ -155,11 +165,11 @@ pub fn bytes_of(line: &str) -> Vec<u8> {
     line.split(' ').nth(2).and_then(script::pairs).unwrap_or_default()
 }
 
-/// The method of the request in a `frame` line, if it holds one.
-fn request_method(line: &str) -> Option<u8> {
+/// Method and parameter 1 of the request in a `frame` line, if it holds one.
+pub fn request(line: &str) -> Option<(u8, u8)> {
     let bytes = bytes_of(line);
     let frame = frame::read(&bytes).ok()?;
-    (1..=127).contains(&frame.message_type).then_some(frame.method)
+    (1..=127).contains(&frame.message_type).then_some((frame.method, frame.parameter1))
 }
 
 fn quiet_how(before: &Panel) -> String {

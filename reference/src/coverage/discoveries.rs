@@ -1,6 +1,7 @@
 //! The paths through a discovery, each under the name it is counted by.
 
 use super::cases::{bytes_of, due, step, waiting};
+use super::retypings::retyped;
 use crate::frame::{self, Fields, COORDINATOR_TYPE};
 use crate::panel::{Panel, CODE_ACK, R2R_LENGTH, RESPONSE, TYPE_R2R};
 use crate::panel::{DISCOVERED_LENGTH, IDENTIFIED_LENGTH, TYPE_DISCOVERED, TYPE_IDENTIFIED};
@@ -113,10 +114,18 @@ fn frame_how(before: &Panel, line: &str, head: &str, after: &Panel) -> &'static 
         (_, "refuse 7") => refused_how(wait.1, &frame),
         ((_, Exchange::Search), "rest") => told_how(before, frame.payload[0], mac(&frame)),
         ((at, _), "wait identify 0") => heard_how(before, at, mac(&frame)),
-        ((at, _), "transmit joined") if before.record(at).listed() => "it came back",
-        (_, "transmit joined") => "it is new",
+        ((at, _), "transmit joined") => joined_how(before, at, after),
         ((at, _), "transmit") => broken_how(before, at, &frame, after),
         _ => "",
+    }
+}
+
+/// Who joined at the position at stake.
+fn joined_how(before: &Panel, at: usize, after: &Panel) -> &'static str {
+    match before.record(at) {
+        record if !record.listed() => "it is new",
+        _ if retyped(before, at, after) => "it came back as something else",
+        _ => "it came back as it was",
     }
 }
 

@@ -75,6 +75,7 @@ pub fn cases() -> Vec<String> {
         cases.push(format!("discover: refuse 14 (waiting, {wait})"));
     }
     cases.extend(discoveries());
+    cases.extend(texts(&RETYPED));
     for wait in DROPS {
         cases.push(format!("quiet: rest dropped ({wait}, a miss)"));
     }
@@ -92,15 +93,17 @@ pub fn cases() -> Vec<String> {
     cases
 }
 
-const FIXED_CASES: [&str; 49] = [
+const FIXED_CASES: [&str; 51] = [
     "bad line",
     "passed over",
     "table: listed",
     "setup: refuse 13",
     "setup: refuse 21",
     "join: rest joined (new)",
-    "join: rest joined (came back)",
+    "join: rest joined (came back as it was)",
+    "join: rest joined (came back as something else)",
     "join: refuse 12",
+    "join: refuse 12, a listed MAC",
     "join: refuse 13",
     "join: refuse 14 (list due)",
     "join: refuse 14 (forward due)",
@@ -179,9 +182,10 @@ fn discoveries() -> Vec<String> {
 }
 
 /// What can become of a Get Node ID Response, with or without an ACK before it.
-const ANSWERS: [&str; 13] = [
+const ANSWERS: [&str; 14] = [
     "(it is new): transmit joined",
-    "(it came back): transmit joined",
+    "(it came back as it was): transmit joined",
+    "(it came back as something else): transmit joined",
     "(type 0): transmit",
     "(type 165): transmit",
     "(a bad type, but its misses are cleared): transmit",
@@ -209,7 +213,7 @@ const OUTSIDE: [&str; 10] = [
     "in the forward of its request: refuse 6",
 ];
 
-const PATHS: [&str; 48] = [
+const PATHS: [&str; 49] = [
     "discover at rest: wait search",
     "discover at rest, nobody listed: wait search",
     "discover again, nobody listed: wait search",
@@ -252,12 +256,25 @@ const PATHS: [&str; 48] = [
     "turn in assign due (nobody listed): wait assign",
     "turn: wait assign, room to the byte",
     "frame in assign (it is new): transmit joined",
-    "frame in assign (it came back): transmit joined",
+    "frame in assign (it came back as it was): transmit joined",
+    "frame in assign (it came back as something else): transmit joined",
     "frame in assign: refuse 8",
     "frame in assign: refuse 11",
     "frame in assign: taken when there was room",
     "quiet in assign (a free address): rest",
     "quiet in assign (its board has missed twice): rest",
+];
+
+/// What goes by the types of boards that came back as something else.
+const RETYPED: [&str; 8] = [
+    "a list told of a retyping (join)",
+    "a list told of a retyping (identify)",
+    "a list told of a retyping (assign)",
+    "a retyping raised the index of another board",
+    "a retyping lowered the index of another board",
+    "a request of method 1 was passed on to a retyped board",
+    "a request of method 2 was passed on to a retyped board",
+    "a request for the type that a board had was discarded",
 ];
 
 /// Each disturbance where it can be, as it has to be answered there.

@@ -1,5 +1,6 @@
 //! What boards send: each has its habits.
 
+use super::joins::TYPES;
 use super::{frame_text, Generator, Mode};
 use crate::draft::Draft;
 use crate::frame::{COORDINATOR, MAX_PAYLOAD};
@@ -183,7 +184,11 @@ impl Generator<'_> {
         let other = self.panel().record(board).node_type;
         match method {
             1 => self.rng.pick(&[100, 101, 102, 103, 104, 105, 100, 101, 99, 106, any]),
-            2 => self.rng.pick(&[other, other, other, other, other, other, own, 0, 165, any]),
+            2 => {
+                // perhaps one that a board had before it came back
+                let some = self.rng.pick(&TYPES);
+                self.rng.pick(&[other, other, other, other, other, own, some, some, 0, 165, any])
+            }
             3 => {
                 let board = board as u8;
                 let choices = [board, board, board, board, sender as u8, 0, k, k + 1, 40, 41, any];

@@ -42,8 +42,8 @@ impl Generator<'_> {
     pub(super) fn discovery_line(&mut self, at: usize, exchange: Exchange) -> Line {
         let calm = self.mode == Mode::Calm;
         let silent = match exchange {
-            Exchange::Identify { acked: false, .. } if calm => 75,
-            Exchange::Identify { acked: false, .. } => 50,
+            Exchange::Identify { acked: false, .. } if calm => 70,
+            Exchange::Identify { acked: false, .. } => 42,
             _ if calm => 8,
             _ => 27,
         };
@@ -84,13 +84,19 @@ impl Generator<'_> {
         told(&[address, subnet], found, &[1])
     }
 
-    /// Who answers a search: a new board, one that was dropped, one that is
-    /// listed, or one that could not join.
+    /// Who answers a search; now and then one that could not join.
     fn unaddressed(&mut self) -> Identity {
-        let new = self.newcomer();
+        let board = self.seeker();
         if self.rng.chance(8) {
-            return self.misfit(new);
+            return self.misfit(board);
         }
+        board
+    }
+
+    /// A new board, one that was dropped, or one that is listed and mostly comes
+    /// back as something else (C-12).
+    fn seeker(&mut self) -> Identity {
+        let new = self.newcomer();
         // the last free position is kept for a while, or no discovery could start
         let listed = match self.mode {
             Mode::Calm => 5,
@@ -99,7 +105,7 @@ impl Generator<'_> {
         };
         if self.rng.chance(listed) {
             if let Some(board) = self.troubled() {
-                return Identity { session: new.session, ..self.identity_at(board) };
+                return Identity { mac: self.panel().record(board).mac, ..new };
             }
         }
         if !self.away.is_empty() && self.rng.chance(50) {
@@ -111,16 +117,17 @@ impl Generator<'_> {
     }
 
     /// Who sits at the address at stake: its listed board or the one that was
-    /// found, somebody new, one that is listed elsewhere, or a misfit.
+    /// found, as it was or as something else, somebody new, one that is listed
+    /// elsewhere, or a misfit.
     fn holder(&mut self, at: usize) -> Identity {
         let (new, here, other) = (self.newcomer(), self.rightful(at), self.any_other(at));
         let elsewhere = self.panel().record(other).listed();
-        match self.rng.below(15) {
+        match self.rng.below(18) {
             0 | 1 => self.misfit(new),
             2..=4 => Identity { node_type: self.rng.pick(&[0, 165]), ..here },
             5..=7 if elsewhere => self.identity_at(other),
-            8 | 9 => here,
-            10 => Identity { session: new.session, ..here },
+            8 => here,
+            9..=12 => Identity { mac: here.mac, ..new },
             _ => new,
         }
     }

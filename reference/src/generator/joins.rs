@@ -29,7 +29,8 @@ impl Generator<'_> {
         self.turn_line()
     }
 
-    /// A new board, one that was dropped, or one that is listed.
+    /// A new board, one that was dropped, or one that is listed and mostly comes
+    /// back as something else (C-12).
     pub(super) fn join_line(&mut self) -> Line {
         let back = if self.mode == Mode::Calm { 4 } else { 35 };
         if self.rng.chance(back) {
@@ -80,11 +81,12 @@ impl Generator<'_> {
         }
     }
 
-    /// Refused by 12, whatever the MAC.
+    /// Refused by 12, whatever the MAC; a listed one is not retyped by it.
     pub(super) fn bad_type_join(&mut self) -> Line {
         let (node_type, mac) = (self.rng.pick(&[0, 165]), self.any_mac());
         let bad = self.bad_mac();
-        let mac = self.rng.pick(&[mac, mac, bad]);
+        let listed = self.any_listed().map_or(mac, |board| self.panel().record(board).mac);
+        let mac = self.rng.pick(&[mac, listed, bad]);
         Line::plain(self.join_of(node_type, mac))
     }
 

@@ -3,7 +3,7 @@
 use reference::frame::{self, Frame};
 use reference::panel::{Action, Answer, Outcome, Panel, Settings};
 use reference::refusal::Refusal;
-use reference::state::Exchange;
+use reference::state::{Exchange, Phase};
 
 pub const MAC: u64 = 0x0011_2233_4455_6677;
 pub const SESSION: u64 = 0x8877_6655_4433_2211;
@@ -57,4 +57,20 @@ pub fn rest() -> Answer {
 
 pub fn transmit(count: usize) -> Answer {
     Ok(Outcome { action: Action::Transmit, written: count, joined: 0, dropped: 0 })
+}
+
+/// The board at which a request of this sender arrives, none if it is
+/// discarded; as if the lists were out.
+pub fn goes_to(panel: &Panel, sender: usize, method: u8, parameter1: u8) -> Option<usize> {
+    let mut panel = panel.clone();
+    panel.records.iter_mut().for_each(|record| record.owed = false);
+    panel.coordinator.last_offered = sender - 1;
+    let (board, exchange, _) = turn(&mut panel);
+    assert_eq!((board, exchange), (sender, Exchange::Offer));
+    let source = panel.address(sender);
+    let request = Frame { destination: 255, source, message_type: 3, ..Frame::default() };
+    let request = Frame { method, parameter1, ..request };
+    assert_eq!(panel.frame(&bytes_of(&request), &mut [0; 29]), transmit(29));
+    let passed_on = matches!(panel.coordinator.phase, Phase::ForwardDue { .. });
+    passed_on.then(|| turn(&mut panel).0)
 }

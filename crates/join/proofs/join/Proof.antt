@@ -1,8 +1,9 @@
 -- `join::join` meets its contract: a verdict that refuses refuses the step, and one that does not leaves what the rules say.
+use Prim.Native.Nat.{ℕ}
 use mathlib.Core.Path.{ap, sym, _∙_}
 use borrow.Author.Needs.{needs}
 use Rattle.board.specs.Table.{put}
-use Rattle.board.specs.Change.{oweAll}
+use Rattle.board.specs.Change.{joinedNode, oweAll}
 use Rattle.setup.specs.Setup.{toldOf}
 use Rattle.steps.specs.After.{shows, resting}
 use Rattle.join.proofs.Verdict.{join-taken, join-refused}
@@ -24,14 +25,11 @@ enum-told c = search needs
 chosen-requires : tie.Need-chosen-requires
 chosen-requires c κs = search needs
 
-joining-requires : tie.Need-joining-requires
-joining-requires c κs = search needs
-
 holding-requires : tie.Need-holding-requires
 holding-requires c κs = search needs
 
-put-at-requires : tie.Need-put-at-requires
-put-at-requires c κs = search needs
+list-at-requires : tie.Need-list-at-requires
+list-at-requires c κs = search needs
 
 owe-all-requires : tie.Need-owe-all-requires
 owe-all-requires c κs = search needs
@@ -46,14 +44,14 @@ returns c =
 
 returns-2 : tie.Need-returns-2
 returns-2 c =
-    let args = c .before .before .before .before .before .before .before .before .before .before .args in
+    let args = c .before .before .before .before .before .before .before .before .before .args in
     c .resting .ensures ∙
     (λ i. shows (resting
     (c .before .before .before .holding .ensures i)
-    ((c .before .owe-all .ensures ∙ ap oweAll (c .before .before .put-at .ensures ∙ (λ j. put (args .table .nodes) (c .before .before .before .before .before .chosen .ensures j) (c .before .before .before .before .joining .ensures j)))) i)
-    (c .before .before .before .before .before .chosen .ensures i)
+    ((c .before .owe-all .ensures ∙ ap oweAll (c .before .before .list-at .ensures ∙ ap (λ (p : ℕ). put (args .table .nodes) p (joinedNode (args .kind) (args .mac) (args .session))) (c .before .before .before .before .chosen .ensures))) i)
+    (c .before .before .before .before .chosen .ensures i)
     0)) ∙
-    sym (ap shows (join-taken (args .coordinator) (args .table .nodes) (args .kind) (args .mac) (args .session) (sym (ap toldOf (c .before .before .before .before .before .before .before .enum-told .given .1)) ∙ c .before .before .before .before .before .before .before .before .before .judge-join .ensures)))
+    sym (ap shows (join-taken (args .coordinator) (args .table .nodes) (args .kind) (args .mac) (args .session) (sym (ap toldOf (c .before .before .before .before .before .before .enum-told .given .1)) ∙ c .before .before .before .before .before .before .before .before .judge-join .ensures)))
 
 pub join-spec : {M : Type 1} → statement M
 join-spec =
@@ -64,9 +62,8 @@ join-spec =
     refusing-requires
     enum-told
     chosen-requires
-    joining-requires
     holding-requires
-    put-at-requires
+    list-at-requires
     owe-all-requires
     resting-requires
     returns

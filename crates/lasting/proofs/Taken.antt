@@ -1,21 +1,28 @@
--- A step that is accepted passed every rule.
+-- A step that is accepted passed every rule; a refusal waits for nobody.
 use mathlib.Core.Path.{_≡_, refl}
 use mathlib.Core.Bool.{Bool, true, false}
 use mathlib.Core.List.{List}
+use lib.Dec.{eqb}
 use borrow.Author.Tests.{eqb-true}
 use Rattle.ground.specs.Choose.{choose}
-use Rattle.refusal.specs.Refusal.{numberOf, ruled}
+use Rattle.ground.proofs.Choices.{not-right}
+use Rattle.refusal.specs.Refusal.{refuses, numberOf, ruled}
 use Rattle.refusal.specs.declared.Refusal.{Refusal}
 use Rattle.refusal.proofs.Numbers.{not-zero}
 use Rattle.refusal.proofs.Rules.{Passed, by-rules, each}
 use Rattle.board.specs.declared.Node.{Node}
 use Rattle.coordinator.specs.declared.Coordinator.{Coordinator}
 use Rattle.steps.specs.After.{After, refused}
-use Rattle.series.specs.Series.{isAccepted}
+use Rattle.series.specs.Series.{isAccepted, waitsIn}
 
 -- no refusal is accepted
 pub never-accepted {ℓ} : {A : Type ℓ} (c : Coordinator) (t : List Node) (r : Refusal) → isAccepted (refused c t r .says) ≡ true → A
 never-accepted c t r h = absurd (not-zero r (eqb-true (numberOf r) 0 h))
+
+-- and none waits in an exchange
+pub no-wait : (r : Refusal) → waitsIn (refuses r) ≡ 0
+unfolding choose
+no-wait r = rw (not-right (eqb (refuses r .number) 0) false refl) refl
 
 module _ (c : Coordinator) (t : List Node) where
   -- what holds of every refusal, and of what the rules guard, holds of the step
