@@ -209,7 +209,8 @@ fn record_fits(k: usize, i: usize, node: Node) -> bool
     }
 }
 
-// The MAC at index i is 0, or none of those before it.
+// The MAC at index i is 0, or none of those before it. All of them are looked at, with no way out of the loop: the compiler
+// then compares several at once. In it the MAC is not 0; the test stands as the definition has it.
 fn apart_from_lower(macs: &[u64], i: usize) -> bool
     requires { ⌜ i < length (now macs) ⌝ }
     ensures { λ r. ⌜ r ≡ apartFrom (now (macs .entry)) i ⌝ }
@@ -218,14 +219,13 @@ fn apart_from_lower(macs: &[u64], i: usize) -> bool
     if mac == 0 {
         return true;
     }
+    let mut apart = true;
     let mut j: usize = 0;
     while j < i {
-        if mac == macs[j] {
-            return false;
-        }
+        apart = apart & ((mac == 0) | (mac != macs[j]));
         j += 1;
     }
-    true
+    apart
 }
 
 // No MAC but 0 stands twice: each pair is compared once.
