@@ -23,7 +23,7 @@ void make_worst(uint8_t capture[CAPTURE]);
 
 struct panel {
     struct nadrelgos_coordinator coordinator;
-    struct table table;
+    struct nadrelgos_node nodes[NADRELGOS_NODES];
 };
 
 /* A panel with k = 40 and so many boards, resting, to none of which a list is owed, that offered the bus to `last`. */

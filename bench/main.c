@@ -103,16 +103,6 @@ static size_t list_counterpart(struct work *w, size_t times) {
 }
 
 /* One step on each panel. They are set anew before, outside the time that is taken. */
-static size_t steps_by_value(struct work *w, size_t times) {
-    size_t sum = 0;
-    for (size_t i = 0; i < times; i++) {
-        struct step_numbers r = measure_step(w->panels[i].coordinator, w->panels[i].table, w->event, 0, 0, 0,
-                                             w->acks[i], w->ack_count, w->out, sizeof w->out);
-        sum += nadrelgos_answer(r.answer);
-    }
-    return sum;
-}
-
 static size_t steps_counterpart(struct work *w, size_t times) {
     size_t sum = 0;
     for (size_t i = 0; i < times; i++)
@@ -124,8 +114,8 @@ static size_t steps_counterpart(struct work *w, size_t times) {
 static size_t steps_lent(struct work *w, size_t times) {
     size_t sum = 0;
     for (size_t i = 0; i < times; i++)
-        sum += nadrelgos_answer(nadrelgos_step(&w->panels[i].coordinator, w->panels[i].table.nodes, NADRELGOS_NODES,
-                                               w->event, 0, 0, 0, w->acks[i], w->ack_count, w->out, sizeof w->out));
+        sum += nadrelgos_answer(nadrelgos_step(&w->panels[i].coordinator, w->panels[i].nodes, NADRELGOS_NODES, w->event,
+                                               0, 0, 0, w->acks[i], w->ack_count, w->out, sizeof w->out));
     return sum;
 }
 
@@ -135,8 +125,8 @@ static void set_panels(struct work *w, size_t boards, uint8_t event) {
         struct panel *p = &w->panels[i];
         make_panel(p, boards, i * 5 % boards);
         if (event != NADRELGOS_EVENT_TURN) {
-            ct_turn(&p->coordinator, p->table.nodes, NADRELGOS_NODES, w->out, sizeof w->out);
-            w->ack_count = make_ack(&p->coordinator, p->table.nodes, p->coordinator.stand.board, w->acks[i]);
+            ct_turn(&p->coordinator, p->nodes, NADRELGOS_NODES, w->out, sizeof w->out);
+            w->ack_count = make_ack(&p->coordinator, p->nodes, p->coordinator.stand.board, w->acks[i]);
         }
     }
     w->event = event;
@@ -201,8 +191,8 @@ static void wire_table(struct work *w) {
     row("find in 4,096 bytes, worst", w, list_proved, list_counterpart, 1, 60);
 }
 
-enum { BY_VALUE, LENT, COUNTERPART, STEPPERS };
-static job *const steppers[STEPPERS] = {steps_by_value, steps_lent, steps_counterpart};
+enum { LENT, COUNTERPART, STEPPERS };
+static job *const steppers[STEPPERS] = {steps_lent, steps_counterpart};
 
 static const size_t board_counts[] = {1, 8, 40};
 static const uint8_t events[] = {NADRELGOS_EVENT_TURN, NADRELGOS_EVENT_FRAME, NADRELGOS_EVENT_QUIET};
@@ -210,8 +200,7 @@ static const char *const event_names[] = {"turn: an offer", "frame: its ACK", "q
 static double step_times[3][3][STEPPERS]; /* event, boards, stepper */
 
 static void step_table(struct work *w) {
-    printf("\n%-28s %9s %9s %9s %11s %7s %14s\n", "ns a step", "by value", "lent", "C -O2", "by value/C", "lent/C",
-           "lent/by value");
+    printf("\n%-34s %12s %12s %8s\n", "ns a step", "lent", "C -O2", "ratio");
     for (size_t e = 0; e < 3; e++)
         for (size_t b = 0; b < 3; b++) {
             double *best = step_times[e][b];
@@ -219,8 +208,7 @@ static void step_table(struct work *w) {
             set_panels(w, board_counts[b], events[e]);
             race(w, steppers, STEPPERS, PANELS, 4000, best);
             snprintf(name, sizeof name, "%s, %zu board%s", event_names[e], board_counts[b], b ? "s" : "");
-            printf("%-28s %9.1f %9.1f %9.1f %11.2f %7.2f %14.2f\n", name, best[BY_VALUE], best[LENT], best[COUNTERPART],
-                   best[BY_VALUE] / best[COUNTERPART], best[LENT] / best[COUNTERPART], best[LENT] / best[BY_VALUE]);
+            printf("%-34s %12.1f %12.1f %8.2f\n", name, best[LENT], best[COUNTERPART], best[LENT] / best[COUNTERPART]);
         }
 }
 
@@ -252,7 +240,7 @@ static void growth_table(struct work *w) {
         growth_row(worst ? "find, worst, C" : "find all, typical, C", times[1], 4);
     }
     printf("\n%-34s %10s %10s %18s\n", "growth: ns over boards", "1", "8", "40");
-    static const char *const stepper_names[STEPPERS] = {"by value", "lent", "C"};
+    static const char *const stepper_names[STEPPERS] = {"lent", "C"};
     for (size_t e = 0; e < 3; e++)
         for (size_t j = 0; j < STEPPERS; j++) {
             char name[64];
@@ -267,7 +255,7 @@ static void growth_table(struct work *w) {
 
 static int loop(const char *what, const char *event, size_t boards, size_t times) {
     static struct work w;
-    static const char *const names[STEPPERS] = {"by-value", "lent", "counterpart"};
+    static const char *const names[STEPPERS] = {"lent", "counterpart"};
     static const char *const event_words[] = {"turn", "frame", "quiet"};
     for (size_t e = 0; e < 3; e++)
         for (size_t j = 0; j < STEPPERS; j++)
@@ -279,7 +267,7 @@ static int loop(const char *what, const char *event, size_t boards, size_t times
                 }
                 return 0;
             }
-    fprintf(stderr, "usage: main [loop by-value|lent|counterpart turn|frame|quiet BOARDS TIMES]\n");
+    fprintf(stderr, "usage: main [loop lent|counterpart turn|frame|quiet BOARDS TIMES]\n");
     return 2;
 }
 

@@ -4,10 +4,6 @@
 
 #include "counterpart.h"
 
-struct table {
-    struct nadrelgos_node nodes[NADRELGOS_NODES];
-};
-
 struct read_numbers {
     uint8_t refusal;
     struct ct_header header;
@@ -24,19 +20,10 @@ struct find_numbers {
     size_t start, length, tried;
 };
 
-struct step_numbers {
-    struct nadrelgos_coordinator coordinator;
-    struct table table;
-    uint64_t answer;
-};
-
 bool measure_good(const uint8_t *bytes, size_t count);
 struct read_numbers measure_read(const uint8_t *bytes, size_t count);
 struct write_numbers measure_write(struct ct_header header, const uint8_t *payload, size_t length, uint8_t *out,
                                    size_t room);
 struct find_numbers measure_find(const uint8_t *bytes, size_t count, size_t budget);
-struct step_numbers measure_step(struct nadrelgos_coordinator coordinator, struct table table, uint8_t event,
-                                 uint8_t kind, uint64_t mac, uint64_t session, const uint8_t *received,
-                                 size_t received_count, uint8_t *out, size_t room);
 
 #endif

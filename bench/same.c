@@ -3,7 +3,7 @@
 #include <stdio.h>
 #include <string.h>
 
-/* ---- the three panels behind one face ---- */
+/* ---- the counterpart behind the panel's face ---- */
 
 /* The counterpart's answer has the order of the packed one. */
 static uint64_t packed(struct ct_answer answer) {
@@ -15,7 +15,7 @@ static uint64_t packed(struct ct_answer answer) {
 uint64_t step_counterpart(struct panel *p, uint8_t event, uint8_t kind, uint64_t mac, uint64_t session,
                           const uint8_t *received, size_t count, uint8_t *out, size_t room) {
     ct_coordinator *c = &p->coordinator;
-    ct_node *nodes = p->table.nodes;
+    ct_node *nodes = p->nodes;
     struct ct_answer answer;
     switch (event) {
     case NADRELGOS_EVENT_TURN: answer = ct_turn(c, nodes, NADRELGOS_NODES, out, room); break;
@@ -24,21 +24,6 @@ uint64_t step_counterpart(struct panel *p, uint8_t event, uint8_t kind, uint64_t
     default: answer = ct_join(c, nodes, NADRELGOS_NODES, kind, mac, session); break;
     }
     return packed(answer);
-}
-
-uint64_t step_by_value(struct panel *p, uint8_t event, uint8_t kind, uint64_t mac, uint64_t session,
-                       const uint8_t *received, size_t count, uint8_t *out, size_t room) {
-    struct step_numbers r =
-        measure_step(p->coordinator, p->table, event, kind, mac, session, received, count, out, room);
-    p->coordinator = r.coordinator;
-    p->table = r.table;
-    return r.answer;
-}
-
-uint64_t step_lent(struct panel *p, uint8_t event, uint8_t kind, uint64_t mac, uint64_t session,
-                   const uint8_t *received, size_t count, uint8_t *out, size_t room) {
-    return nadrelgos_step(&p->coordinator, p->table.nodes, NADRELGOS_NODES, event, kind, mac, session, received, count,
-                          out, room);
 }
 
 /* ---- field by field: padding has no meaning ---- */
@@ -66,7 +51,7 @@ static bool same_found(const struct nadrelgos_found *a, const struct nadrelgos_f
 static bool same_panel(const struct panel *a, const struct panel *b) {
     const ct_coordinator *c = &a->coordinator, *d = &b->coordinator;
     for (size_t i = 0; i < NADRELGOS_NODES; i++)
-        if (!same_node(&a->table.nodes[i], &b->table.nodes[i])) return false;
+        if (!same_node(&a->nodes[i], &b->nodes[i])) return false;
     return same_setup(&c->setup, &d->setup) && c->last == d->last && c->held == d->held &&
            c->searched == d->searched && c->stand.stage == d->stand.stage && c->stand.board == d->stand.board &&
            c->stand.requester == d->stand.requester && same_kept(&c->kept, &d->kept) &&
@@ -121,12 +106,13 @@ static bool same_wire(void) {
 /* ---- steps ---- */
 
 /* The same step on both; what they leave must be the same. */
-static bool same_step(struct panel *ours, struct panel *theirs, step_function *step, uint8_t event, uint8_t kind,
-                      uint64_t mac, uint64_t session, const uint8_t *received, size_t count, size_t room) {
+static bool same_step(struct panel *ours, struct panel *theirs, uint8_t event, uint8_t kind, uint64_t mac,
+                      uint64_t session, const uint8_t *received, size_t count, size_t room) {
     uint8_t a[CT_FRAME + 8], b[CT_FRAME + 8];
     memset(a, 0xEE, sizeof a);
     memset(b, 0xEE, sizeof b);
-    uint64_t x = step(ours, event, kind, mac, session, received, count, a, room);
+    uint64_t x = nadrelgos_step(&ours->coordinator, ours->nodes, NADRELGOS_NODES, event, kind, mac, session, received,
+                                count, a, room);
     uint64_t y = step_counterpart(theirs, event, kind, mac, session, received, count, b, room);
     return x == y && memcmp(a, b, sizeof a) == 0 && same_panel(ours, theirs);
 }
@@ -134,7 +120,7 @@ static bool same_step(struct panel *ours, struct panel *theirs, step_function *s
 /* A frame that the wait may take, or nearly. */
 static size_t random_frame(const struct panel *p, uint64_t *seed, uint8_t *out) {
     const ct_coordinator *c = &p->coordinator;
-    const ct_node *nodes = p->table.nodes;
+    const ct_node *nodes = p->nodes;
     size_t board = c->stand.board;
     if (board < 1 || board > NADRELGOS_NODES) return make_frame(next_random(seed) % (CT_PAYLOAD + 1), out);
     ct_node n = nodes[board - 1];
@@ -185,10 +171,10 @@ static void spoil(struct panel *p, uint64_t *seed) {
         ((uint8_t *)&p->coordinator)[next_random(seed) % sizeof p->coordinator] ^=
             (uint8_t)(1 << next_random(seed) % 8);
     else
-        ((uint8_t *)&p->table)[next_random(seed) % sizeof p->table] ^= (uint8_t)(1 << next_random(seed) % 8);
+        ((uint8_t *)p->nodes)[next_random(seed) % sizeof p->nodes] ^= (uint8_t)(1 << next_random(seed) % 8);
 }
 
-static bool same_play(step_function *step, size_t boards, size_t steps) {
+static bool same_play(size_t boards, size_t steps) {
     struct panel ours, theirs;
     uint64_t seed = boards;
     make_panel(&theirs, boards, 0);
@@ -206,33 +192,32 @@ static bool same_play(step_function *step, size_t boards, size_t steps) {
             struct panel spoilt = theirs;
             spoil(&spoilt, &seed);
             struct panel same = spoilt;
-            if (!same_step(&same, &spoilt, step, event, 3, 0xA0B0C0D0E000 + board, i, received, count, room))
-                return false;
+            if (!same_step(&same, &spoilt, event, 3, 0xA0B0C0D0E000 + board, i, received, count, room)) return false;
         }
-        if (!same_step(&ours, &theirs, step, event, (uint8_t)(next_random(&seed) % 7), 0xA0B0C0D0E000 + board, i,
-                       received, count, room))
+        if (!same_step(&ours, &theirs, event, (uint8_t)(next_random(&seed) % 7), 0xA0B0C0D0E000 + board, i, received,
+                       count, room))
             return false;
     }
     return true;
 }
 
 /* The steps that are timed: an offer, its ACK, and a quiet in its place. */
-static bool same_round(step_function *step, size_t boards) {
+static bool same_round(size_t boards) {
     for (size_t last = 0; last < boards; last++) {
         uint8_t ack[CT_FRAME];
         struct panel ours, theirs, waiting;
         make_panel(&theirs, boards, last);
         ours = theirs;
-        if (!same_step(&ours, &theirs, step, NADRELGOS_EVENT_TURN, 0, 0, 0, ack, 0, CT_FRAME) ||
+        if (!same_step(&ours, &theirs, NADRELGOS_EVENT_TURN, 0, 0, 0, ack, 0, CT_FRAME) ||
             theirs.coordinator.stand.stage != CT_STAGE_WAIT_OFFER)
             return false;
         waiting = theirs;
-        size_t count = make_ack(&theirs.coordinator, theirs.table.nodes, theirs.coordinator.stand.board, ack);
-        if (!same_step(&ours, &theirs, step, NADRELGOS_EVENT_FRAME, 0, 0, 0, ack, count, CT_FRAME) ||
+        size_t count = make_ack(&theirs.coordinator, theirs.nodes, theirs.coordinator.stand.board, ack);
+        if (!same_step(&ours, &theirs, NADRELGOS_EVENT_FRAME, 0, 0, 0, ack, count, CT_FRAME) ||
             theirs.coordinator.stand.stage != CT_STAGE_RESTING)
             return false;
         ours = theirs = waiting;
-        if (!same_step(&ours, &theirs, step, NADRELGOS_EVENT_QUIET, 0, 0, 0, ack, 0, CT_FRAME) ||
+        if (!same_step(&ours, &theirs, NADRELGOS_EVENT_QUIET, 0, 0, 0, ack, 0, CT_FRAME) ||
             theirs.coordinator.stand.stage != CT_STAGE_RESTING)
             return false;
     }
@@ -242,33 +227,33 @@ static bool same_round(step_function *step, size_t boards) {
 static const uint8_t nothing[1];
 
 /* What a play does not come to by chance: nobody listed, a full table, a board that leaves while joins are held. */
-static bool same_corners(step_function *step) {
+static bool same_corners(void) {
     struct panel ours, theirs;
     make_panel(&theirs, NADRELGOS_NODES, 0);
     ours = theirs;
-    if (!same_step(&ours, &theirs, step, NADRELGOS_EVENT_JOIN, 2, 1, 1, nothing, 0, 0) ||
-        !same_step(&ours, &theirs, step, NADRELGOS_EVENT_JOIN, 2, 0, 1, nothing, 0, 0))
+    if (!same_step(&ours, &theirs, NADRELGOS_EVENT_JOIN, 2, 1, 1, nothing, 0, 0) ||
+        !same_step(&ours, &theirs, NADRELGOS_EVENT_JOIN, 2, 0, 1, nothing, 0, 0))
         return false;
     make_panel(&theirs, 0, 0);
     ours = theirs;
-    if (!same_step(&ours, &theirs, step, NADRELGOS_EVENT_TURN, 0, 0, 0, nothing, 0, CT_FRAME) ||
-        !same_step(&ours, &theirs, step, NADRELGOS_EVENT_JOIN, 2, 1, 1, nothing, 0, 0))
+    if (!same_step(&ours, &theirs, NADRELGOS_EVENT_TURN, 0, 0, 0, nothing, 0, CT_FRAME) ||
+        !same_step(&ours, &theirs, NADRELGOS_EVENT_JOIN, 2, 1, 1, nothing, 0, 0))
         return false;
     for (int i = 0; i < 3; i++) {
-        theirs.table.nodes[0].owed = ours.table.nodes[0].owed = 1;
-        if (!same_step(&ours, &theirs, step, NADRELGOS_EVENT_TURN, 0, 0, 0, nothing, 0, CT_FRAME) ||
-            !same_step(&ours, &theirs, step, NADRELGOS_EVENT_QUIET, 0, 0, 0, nothing, 0, 0))
+        theirs.nodes[0].owed = ours.nodes[0].owed = 1;
+        if (!same_step(&ours, &theirs, NADRELGOS_EVENT_TURN, 0, 0, 0, nothing, 0, CT_FRAME) ||
+            !same_step(&ours, &theirs, NADRELGOS_EVENT_QUIET, 0, 0, 0, nothing, 0, 0))
             return false;
     }
-    return theirs.table.nodes[0].kind == 0 && theirs.coordinator.held == 0;
+    return theirs.nodes[0].kind == 0 && theirs.coordinator.held == 0;
 }
 
 static bool same_setup_of(const uint8_t *pool, size_t k, size_t nodes_count, uint64_t mac) {
     struct panel ours, theirs;
     make_panel(&theirs, 8, 3);
     ours = theirs;
-    struct ct_answer answer = ct_setup(&theirs.coordinator, theirs.table.nodes, nodes_count, pool, k, 1, 2, mac, 3);
-    return nadrelgos_setup(&ours.coordinator, ours.table.nodes, nodes_count, pool, k, 1, 2, mac, 3) == packed(answer) &&
+    struct ct_answer answer = ct_setup(&theirs.coordinator, theirs.nodes, nodes_count, pool, k, 1, 2, mac, 3);
+    return nadrelgos_setup(&ours.coordinator, ours.nodes, nodes_count, pool, k, 1, 2, mac, 3) == packed(answer) &&
            same_panel(&ours, &theirs);
 }
 
@@ -292,14 +277,14 @@ static bool said(const char *what, bool same) {
     return same;
 }
 
-static bool same_steps(const char *what, step_function *step) {
+static bool same_steps(void) {
     static const size_t boards[] = {1, 8, 40};
     for (size_t i = 0; i < 3; i++)
-        if (!said(what, same_round(step, boards[i]) && same_play(step, boards[i], 20000))) return false;
-    return said(what, same_corners(step));
+        if (!same_round(boards[i]) || !same_play(boards[i], 20000)) return false;
+    return same_corners();
 }
 
 bool all_same(void) {
-    return said("checksum, read, write, find", same_wire()) && same_steps("step by value", step_by_value) &&
-           same_steps("lent step", step_lent) && said("setup", same_setups());
+    return said("checksum, read, write, find", same_wire()) && said("lent step", same_steps()) &&
+           said("setup", same_setups());
 }

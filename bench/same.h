@@ -4,10 +4,9 @@
 
 #include "inputs.h"
 
-/* One step on a panel, in place; the answer is packed as the panel's face packs it. */
-typedef uint64_t step_function(struct panel *p, uint8_t event, uint8_t kind, uint64_t mac, uint64_t session,
-                               const uint8_t *received, size_t count, uint8_t *out, size_t room);
-step_function step_by_value, step_lent, step_counterpart;
+/* One step of the counterpart on a panel, in place; the answer is packed as the panel's face packs it. */
+uint64_t step_counterpart(struct panel *p, uint8_t event, uint8_t kind, uint64_t mac, uint64_t session,
+                          const uint8_t *received, size_t count, uint8_t *out, size_t room);
 
 /* Compares all that is timed, and a long random play; says where they differ. */
 bool all_same(void);

@@ -5,8 +5,8 @@
  * tools, nadrelgos_list, _clear and _mark. They are written in Rattle and proved to do what the definitions under
  * crates/ say, for every input; docs/PROMISES.md leads from each rule to its definition, its theorem and its code. This
  * header is not proved: it restates those definitions for whoever writes the firmware. The archive is for x86-64; the
- * assertions at the end stop a build whose records would be laid out otherwise. Of C's library it needs memcpy; a call
- * takes up to some 27 kilobytes of stack, which `hosts/c/run stack` measures.
+ * assertions at the end stop a build whose records would be laid out otherwise. Of C's library it needs memcpy
+ * and memset; a call takes up to some 1.5 kilobytes of stack, which `hosts/c/run stack` measures.
  *
  * WHO OWNS WHAT
  *   The host owns all memory: one coordinator record, forty node records, and the buffers. Nothing is allocated and

@@ -1,17 +1,38 @@
 """The functions that a walk calls: their contracts, what a call asks, and the steps of a call."""
+from collections import namedtuple
+
 from names import called, dash, key
-from terms import G, abbrev, at, bound, grouped, lemma
+from terms import G, abbrev, at, bound, grouped, lemma, ungrouped
+
+
+# what arguments are of that are known only on the way: a term of a type, and its value where theirs are over that
+Over = namedtuple('Over', 'term type value', defaults=('',))
+
+
+def words(names):
+    """a b, of names with their types"""
+    return ' '.join(name for name, _ in names)
+
+
+def kinds(names):
+    """A → B → , their types before another"""
+    return ''.join(f'{kind} → ' for _, kind in names)
 
 
 class Callee:
-    """A function that the walk calls. In the proof its statement is the `alias` and its contract the `contract`; `name` is the stem of the other names for it.
-    That it meets the contract is known-NAME, in the walk itself `known` where that is given."""
+    """A function that the walk calls, as CRATE::FUNCTION. In the proof its statement is the `alias` and its contract the `contract`; `name` is the stem of the other
+    names for it. That it meets the contract is known-NAME, in the walk itself `known` where that is given; its modules go by the `stem`, or by its own name."""
 
-    def __init__(self, function, alias, contract, name, known=None):
-        self.function, self.alias, self.contract, self.name = function, alias, contract, name
-        self.key, self.uses = key(function), called(function, alias)
+    def __init__(self, function, alias, contract, name, known=None, stem=None):
+        self.crate, self.function = function.split('::')
+        self.alias, self.contract, self.name, self.stem = alias, contract, name, stem or dash(self.function)
+        self.key = key(self.crate, self.function)
         self.cited, self.known = f'known-{name}', known or f'known-{name}'
         self.triple = f'tripleOf 𝓤 H A {alias}.signature ({alias}.spec {G})'
+
+    def uses(self, own):
+        """its imports, in a crate"""
+        return called(own, self.crate, self.function, self.alias, self.stem)
 
     def define(self):
         """the contract"""
@@ -19,12 +40,12 @@ class Callee:
 
     def premise(self, calls):
         """that the callee meets it, in a table of calls"""
-        return f'Triple 𝓤 ({calls} {self.key}) ({self.contract} {G})'
+        return f'Triple 𝓤 ({ungrouped(calls)} {self.key}) ({self.contract} {G})'
 
     def met(self):
         """that it does, in the program's"""
-        contract, name = f'{self.contract} 𝓤 H (𝓖 .A) (𝓜 .mem) (𝓡 .run)', dash(self.function)
-        return f'(cited 𝓤 H ({contract}) 𝓜 𝓡 code.env {self.key} {name}-def.routine code.calls-{self.key[1:]} ({name}-thm.met 𝓤 H 𝓜 𝓖 𝓡))'
+        contract = f'{self.contract} 𝓤 H (𝓖 .A) (𝓜 .mem) (𝓡 .run)'
+        return f'(cited 𝓤 H ({contract}) 𝓜 𝓡 code.env {self.key} {self.stem}-def.routine code.calls-{self.key[1:]} ({self.stem}-thm.met 𝓤 H 𝓜 𝓖 𝓡))'
 
     def ensured(self, lifetimes, arguments, result):
         """what it ensures"""
@@ -42,18 +63,19 @@ class Callee:
 
     def asks(self, tokens, arguments, late=None):
         """what a call asks: the arguments, their values and what is owned of them, the ghost that the contract is used at, and that its precondition follows
-        from the tokens and what is owned. All this is over the argument, if there is one, that is known only on the way."""
+        from the tokens and what is owned. All this is over the argument, if there is one, that is known only on the way, or over what such arguments are of."""
         name, contract = self.name, f'{self.contract} {G}'
-        term, value, over = (late.term, late.value, f'{late.term} {late.value}') if late else ('', '', '')
-        of_term, of_value, binders = (f'{late.type} → ', 'Val → ', f'({term} : {late.type}) ({value} : Val) → ') if late else ('', '', '')
-        args, vals = at(f'{name}-args', term), at(f'{name}-vals', value)
+        terms = [(late.term, late.type)] if late else []
+        values = [(late.value, 'Val')] if late and late.value else terms
+        both = terms + [x for x in values if x not in terms]
+        args, vals, over = at(f'{name}-args', words(terms)), at(f'{name}-vals', words(values)), words(both)
         items = f'{tokens} ∷ ‵ ({at(f"{name}-owns", over)}) ∷ []'
         return ''.join([
-            abbrev(f'{name}-args', of_term + arguments.types(), arguments.terms(), term),
-            abbrev(f'{name}-vals', of_value + arguments.value_types(), arguments.values(), value),
-            abbrev(f'{name}-owns', f'{of_term}{of_value}Fml', f'owns ({arguments.rows()}) {grouped(args)} {grouped(vals)}', over),
-            abbrev(f'to-{name}', f'{of_term}{of_value}{contract} .Ghost', arguments.ghost(args, vals), over),
-            lemma(f'goes-{name}', f'{binders}ent 𝓤 (⋆ 𝓤 H A ({items})) ({contract} .pre ({at(f"to-{name}", over)}))',
+            abbrev(f'{name}-args', kinds(terms) + arguments.types(), arguments.terms(), words(terms)),
+            abbrev(f'{name}-vals', kinds(values) + arguments.value_types(), arguments.values(), words(values)),
+            abbrev(f'{name}-owns', f'{kinds(both)}Fml', f'owns ({arguments.rows()}) {grouped(args)} {grouped(vals)}', over),
+            abbrev(f'to-{name}', f'{kinds(both)}{contract} .Ghost', arguments.ghost(args, vals), over),
+            lemma(f'goes-{name}', f'{bound(both)}{" → " * bool(both)}ent 𝓤 (⋆ 𝓤 H A ({items})) ({contract} .pre ({at(f"to-{name}", over)}))',
                   f'qed W ({items}) ∵ join ! $ frame ! $ done !', over)])
 
 

@@ -14,11 +14,9 @@ from the one to the other, with its arguments: ee is what `event_of` ensures, ey
 from calls import Call, Callee
 from lent import Coordinator, Nodes, Output
 from parameters import Arguments, Value
-from rows import COORDINATOR, NODE, OUTCOME, U64, Enum
+from rows import COORDINATOR, EVENT, NODE, OUTCOME, U64
 from shape import Shape
 from terms import ABOUT, G, abbrev, at, lemma
-
-EVENT = Enum('Event', 'E')
 
 
 class ForC(Shape):
@@ -27,9 +25,9 @@ class ForC(Shape):
 
     def __init__(self, function, calls, parameters, event=True, out=True, **facts):
         before, output = [Coordinator(), Nodes()], Output() if out else None
-        self.event_of = Callee('event_of', 'hear′', 'Hear', 'hear') if event else None
+        self.event_of = Callee('lent::event_of', 'hear′', 'Hear', 'hear') if event else None
         self.step = Callee(calls, 'step′', 'Step', 'step')
-        self.pack = Callee('pack', 'pack′', 'Pack', 'pack')
+        self.pack = Callee('lent::pack', 'pack′', 'Pack', 'pack')
         super().__init__(function, before, parameters, [output], [self.event_of, self.step, self.pack], facts)
         # the event, what it is made of, and what STEP is passed
         self.event = Value('e', EVENT, 'e', 'v', 'ise') if event else None

@@ -1,6 +1,6 @@
 """What is lent for writing: coordinator, nodes and output as parameters, and the locals that a function lends itself."""
-from parameters import Borrow, Place, Slice, marked
-from rows import ARRAY, COORDINATOR, NODE, U8
+from borrows import Borrow, Place, Slice, marked
+from rows import ARRAY, COORDINATOR, NODE, U8, reference, slice_of
 from terms import abbrev, grouped, nth, token
 
 
@@ -8,8 +8,8 @@ def give_up(x, kind, word, j, count):
     """what stands for a record or a slice that is lent for writing, at lifetime j of so many, and given to a callee for good"""
     row, tells = x.of.row, 'mut-tells' if word == 'ref' else 'mut-slice-tells'
     x.row, x.tells = f'Mut{kind} (named {j}) {x.lifetime} {row}', f'{tells} (named {j}) ({nth("κs", j)}) {row}'
-    x.stays = f'gave-{word} ({j} ∷ []) tt (plain (λ _. {row}))'
-    x.goes = f'goes-gave-{word} 𝓤 H A W {count} {j} tt (plain (λ _. {row}))'
+    x.stays = f'gave-{word} ({j} ∷ []) tt {x.of.signature}'
+    x.goes = f'goes-gave-{word} 𝓤 H A W {count} {j} tt {x.of.signature}'
 
 
 class LentSlice(Slice):
@@ -25,6 +25,7 @@ class LentSlice(Slice):
     def stand(self, i, j, count):
         """it is given up"""
         super().stand(i, j, count)
+        self.mirror = slice_of(self.of, 'mut', f'(named {j})')
         give_up(self, 'Slice', 'slice', j, count)
 
     def same_length(self):
@@ -32,8 +33,8 @@ class LentSlice(Slice):
         return f'length {self.end} ≡ length {self.now}'
 
     def reborrow(self, w, to=None):
-        """&mut *it, in its temporaries, or in those of another name"""
-        w.reborrow(self.name, to or self.name, self.room)
+        """&mut *it or &*it, in its temporaries, or in those of another name"""
+        w.reborrow(self.name, to or self.name, self.room, (f'vptr {self.place.block} {self.place.offset}', self.value))
 
     def take_last(self, w):
         """its part is what comes next"""
@@ -57,32 +58,6 @@ class Nodes(LentSlice):
 
     def __init__(self, place=marked('₁'), term='x', value='s₁'):
         super().__init__('nodes', place, term, value, NODE, 'ys', 'room₁', 'zs', 'l₁')
-
-
-class SharedNodes(Nodes):
-    """the nodes, which one callee reads, under another name, before another is given them for good; the proof has `N-own` for owning them"""
-    shared = 'ShrSlice (named 0) (ν ∷ []) T.the-row .own (x δ) (s₁ ∷ [])'
-    sharing = 'T.the-row κ₁ (ν ∷ []) q₁ γ₁ b₁ o₁'
-
-    def __init__(self):
-        super().__init__(term='x γ₁')
-
-    def reference(self, indent):
-        """the term for it, under any name"""
-        return abbrev('x', f'GName → {self.type}', self.named('δ'), 'δ', indent)
-
-    def share_out(self, w):
-        """for a new lifetime ν a shared slice under a new name δ, and what gives the nodes back when ν has ended"""
-        law = f'shares-again {self.sharing} 𝓤 H A W (named {self.j}) (named 0) ys'
-        w.push('lft-new ! tt (λ ν.', 'ν')
-        w.use([self.held, self.lifetime], f'use2 W (later (some (λ (δ : GName). ‵ ({self.shared}) ⊛ ‵ (Shared {self.sharing} ys)))) ({law})'
-              ' $ await ! tt $ pick ! (λ δ. split ! $', 'shared nodes', 'sharing nodes')
-
-    def unshare(self, w):
-        """ends ν"""
-        law = f'unshared {self.sharing} 𝓤 H A W (named {self.j}) (named 0) ys room₁'
-        w.use(['ν'], 'lft-end ! tt $', 'dead ν')
-        w.use(['dead ν', 'sharing nodes'], f'use2 W (later (‵ N-own ⊛ ‵ (flft κ₁ q₁))) ({law}) $ await ! tt $ split ! $', self.held, self.lifetime)
 
 
 class Output(LentSlice):
@@ -110,11 +85,12 @@ class LentRecord(Borrow):
     def stand(self, i, j, count):
         """it is given up"""
         super().stand(i, j, count)
+        self.mirror = reference(self.of, 'mut', f'(named {j})')
         give_up(self, 'Ref', 'ref', j, count)
 
-    def reborrow(self, w):
-        """&mut *it, in its temporary"""
-        w.address(f'{self.name}.ref', w.through(self.name))
+    def reborrow(self, w, to=None):
+        """&mut *it or &*it, in its temporary, or in another local"""
+        w.address(to or f'{self.name}.ref', w.through(self.name), self.value)
 
     def take_last(self, w):
         """its part is what comes next"""
@@ -128,44 +104,36 @@ class Coordinator(LentRecord):
         super().__init__('coordinator', place, term, COORDINATOR, 'h', 'k')
 
 
-class KeptRecord(LentRecord):
-    """`&mut T`, whose borrow the function opens, and closes before exit. `shape` is the proof's name for the function to values."""
-    own_line = True
+class OpenedRecord(LentRecord):
+    """`&mut T`, whose borrow the function opens and closes. `shape` is the proof's name for the function to values."""
 
     def __init__(self, name, place, term, of, now, end, shape):
         super().__init__(name, place, term, of, now, end)
-        self.shape, self.where, self.left = shape, f'{place.block} {place.offset}', (self.held, None)
+        self.shape, self.where = shape, f'{place.block} {place.offset}'
         self.observed, self.borrowed = f'observed {name}', f'borrowed {name}'
         self.record, self.opened = f'record {name}', [f'open {name}', self.observed, f'authority {name}']
-        self.final = [(self.observed, f'‵ (fobs {place.name} ({self.code}))'),
-                      (self.borrowed, f'‵ (fbor {self.lifetime} (Body (mem {of.row}) {self.where} {place.name}))')]
 
-    def stand(self, i, j, count):
-        """it is kept"""
-        super().stand(i, j, count)
-        self.stays = f'stay-ref ({j} ∷ []) tt (plain (λ _. {self.of.row}))'
-        self.goes = f'goes-ref 𝓤 H A W {count} {j} tt (plain (λ _. {self.of.row}))'
-
-    def define(self, indent=2):
-        """the reference, and the function to values"""
-        return self.reference(indent) + abbrev(self.shape, f'{self.of.type} → Val', self.of.shape, indent=indent)
-
-    def final_and_token(self):
-        """in the order in which a closed borrow leaves them"""
-        return [*self.final, (self.lifetime, token(self.lifetime, self.share))]
-
-    def put_together(self, w):
-        """the borrow, and what it is of"""
+    def as_one(self, w):
+        """the closed borrow, and what it is of, as one item"""
         w.push(f'feqI ! (List Val) ({self.value} ∷ []) ({self.value} ∷ []) refl $', 'address')
         w.use(['address', self.observed, self.borrowed], 'fjoin3 ! $', self.held)
+
+    def uncover(self, w, then=''):
+        """opens the borrow: the record as its row has it, what is owned of it, and what closes it again; `then` is said of the values `vs`"""
+        w.use([self.held], 'fsplit3 ! $', 'address', self.observed, self.borrowed)
+        w.drop('address')
+        opens = f'opens ! tt {self.of.row} {{h = {self.now}}} {self.where} (λ vs. {then}'
+        w.use([self.observed, self.borrowed, self.lifetime], opens, self.record, 'plain', *self.opened)
+
+    def cover(self, w, end, values):
+        """closes the borrow, on what the record ends as, at these values"""
+        closes = f'closes ! tt {self.of.row} {grouped(end)} {values} {self.where} $'
+        w.use([self.record, 'plain', *self.opened], closes, self.observed, self.borrowed, self.lifetime)
 
     def open(self, w, proof):
         """opens the borrow: the record as a cell, known to be right by a proof, and what closes it again"""
         value = f'{self.shape} {self.now}'
-        w.use([self.held], 'fsplit3 ! $', 'address', self.observed, self.borrowed)
-        w.drop('address')
-        opens = f'opens ! tt {self.of.row} {{h = {self.now}}} {self.where} (λ vs. {self.of.spelt(self.now, "vs", self.where)}'
-        w.use([self.observed, self.borrowed, self.lifetime], opens, self.record, 'plain', *self.opened)
+        self.uncover(w, self.of.spelt(self.now, 'vs', self.where))
         w.use(['plain'], self.of.peeks(self.now, value, proof))
         w.use([self.record], self.of.as_local(value, self.where), self.record)
 
@@ -177,20 +145,49 @@ class KeptRecord(LentRecord):
         """*it = operand"""
         w.say(f'assigns ! (of-opd ! ({operand})) (from ! ({w.through(self.name)})) (store ! {w.at(self.record)} refl {typed}) $')
 
-    def close(self, w, proof):
+    def close(self, w, proof, end=None):
         """closes the borrow, on what the record ends as, known to be right by a proof"""
-        value = f'{self.shape} {grouped(self.end)}'
+        end = end or self.end
+        value = f'{self.shape} {grouped(end)}'
         w.use([self.record], self.of.as_cell(value, self.where), self.record)
-        w.push(self.of.owned(self.end, proof), 'plain')
-        closes = f'closes ! tt {self.of.row} {grouped(self.end)} ({value} ∷ []) {self.where} $'
-        w.use([self.record, 'plain', *self.opened], closes, self.observed, self.borrowed, self.lifetime)
+        w.push(self.of.owned(end, proof), 'plain')
+        self.cover(w, end, f'({value} ∷ [])')
+
+
+class KeptRecord(OpenedRecord):
+    """`&mut T`, whose borrow is closed at exit"""
+
+    def __init__(self, name, place, term, of, now, end, shape):
+        super().__init__(name, place, term, of, now, end, shape)
+        self.left = (self.held, None)
+        self.final = [(self.observed, f'‵ (fobs {place.name} ({self.code}))'),
+                      (self.borrowed, f'‵ (fbor {self.lifetime} (Body (mem {of.row}) {self.where} {place.name}))')]
+
+    def stand(self, i, j, count):
+        """it is kept"""
+        super().stand(i, j, count)
+        self.stays = f'stay-ref ({j} ∷ []) tt {self.of.signature}'
+        self.goes = f'goes-ref 𝓤 H A W {count} {j} tt {self.of.signature}'
+
+    def final_and_token(self):
+        """in the order in which a closed borrow leaves them"""
+        return [*self.final, (self.lifetime, token(self.lifetime, self.share))]
+
+    def put_together(self, w):
+        """the borrow, and what it is of"""
+        self.as_one(w)
 
 
 class KeptCoordinator(KeptRecord):
     """the coordinator, read and written by the function itself"""
+    own_line = True
 
     def __init__(self, end):
         super().__init__('coordinator', marked('₀'), 'c', COORDINATOR, 'h', end, 'coord')
+
+    def define(self, indent=2):
+        """the reference, and the function to values"""
+        return self.reference(indent) + abbrev(self.shape, f'{self.of.type} → Val', self.of.shape, indent=indent)
 
 
 class LocalCoordinator(Coordinator):

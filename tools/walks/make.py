@@ -1,13 +1,21 @@
 #!/usr/bin/env python3
-"""tools/walks/make.py: writes the walks of crates/panel/proofs that follow one of three patterns; `rt fmt` afterwards. tools/walks/check holds the files
-to it."""
+"""tools/walks/make.py [TREE]: writes the walks of crates/place and crates/panel that README.md names, into the repository or into another tree of crates; `rt fmt`
+afterwards. tools/walks/check holds the files to it."""
+import sys
+
+from editing import Editing
 from for_c import ForC
-from in_place import InPlace
+from keep import Keep
+from look import Look
+from making import Make
+from names import ROOT
 from on_copies import OnCopies
+from rows import COORDINATOR, EDIT, OUTCOME, U64, USIZE
+from step import Step
 
 # what setup and the step do, and what is said of them in place
 SETUP = {
-    'parameters': ['bytes', 'u8', 'u8', 'u64', 'u64'], 'out': False,
+    'parameters': ['bytes', 'u8', 'u8', 'u64', 'u64'],
     'does': 'startOf h ys xs0 e1 e2 e3 e4',
     'said': 'inPlace {y} {k} {zs} ≡ shows ({does})',
 }
@@ -18,45 +26,43 @@ STEP = {
 }
 
 
-
-def amend(change, parameters, changed):
-    """one record changed in place, by the definition of the change with a hole for the records"""
-    return InPlace(
-        f'nadrelgos_{change}', calls=f'counted_{change}', result='Amended', answer=('answer', 'u64'), coordinator=False, out=False, parameters=parameters,
-        gives=f'amends (r .answer) (r .table .nodes) ≡ amendOf (length ys) (t .nodes) ({changed.format("(t .nodes)")})',
-        said=f'amends {{y}} {{zs}} ≡ amendOf (length ys) ys ({changed.format("ys")})',
-        law=f'amend-in-place (λ (l : List Node). {changed.format("l")}) ys {{zs}} t r et {{forty}} er ez')
+def amend(change, parameters, edit, changed):
+    """one record changed in place, by an edit"""
+    return Editing(
+        f'nadrelgos_{change}', calls=f'lent::{change}_edit', result='Amendment', fields={'from': USIZE, 'to': USIZE, 'edit': EDIT, 'answer': U64},
+        edits=('from', 'to', 'edit'), parameters=parameters,
+        gives=f'r ≡ amending (length ys) e0 {edit}',
+        said=f'amends {{y}} {{zs}} ≡ amendOf (length ys) ys ({changed})',
+        law=f'amend-in-place ys {{zs}} e0 {edit} r er ez')
 
 
 WALKS = [
-    InPlace(
-        'setup', calls='counted_setup', result='Stepped', answer=('outcome', 'Outcome'), **SETUP,
-        counted='countedSetup h (t .nodes) (length ys) xs0 e1 e2 e3 e4',
-        gives='shown r ≡ shows ({counted})',
-        law='setup-in-place h ys {zs} xs0 e1 e2 e3 e4 t r et {forty} er ez'),
-    InPlace(
-        'step', calls='counted_step', result='Stepped', answer=('outcome', 'Outcome'), **STEP,
-        counted='countedStep h (t .nodes) (length ys) e0 xs1 (length os)',
-        gives='(shown r ≡ shows ({counted})) × ({us} ≡ laid ({counted} .bytes) os)',
-        law='step-in-place h ys {zs} e0 xs1 os {us} t r et {forty} er ez'),
-    amend('list', ['usize', 'u8', 'u64', 'u64'], 'listing {} e0 e1 e2 e3'),
-    amend('clear', ['usize'], 'clearing {} e0'),
-    amend('mark', ['usize'], 'marking {} e0'),
-    OnCopies('lend_setup', calls='setup', **SETUP),
-    OnCopies('lend_step', calls='step', **STEP),
+    Editing(
+        'setup', calls='start::begin', result='Begun', fields={'coordinator': COORDINATOR, 'clear': USIZE, 'outcome': OUTCOME}, edits=(0, 'clear', 'Cleared'), **SETUP,
+        gives='r ≡ beginOf h (length ys) xs0 e1 e2 e3 e4',
+        law='setup-in-place h ys xs0 e1 e2 e3 e4 {zs} r er ez'),
+    amend('list', ['usize', 'u8', 'u64', 'u64'], '(Joined e1 e2 e3)', 'listing ys e0 e1 e2 e3'),
+    amend('clear', ['usize'], 'Cleared', 'clearing ys e0'),
+    amend('mark', ['usize'], 'Owed', 'marking ys e0'),
+    OnCopies('lend_setup', calls='panel::setup', out=False, **SETUP),
+    OnCopies('lend_step', calls='panel::step', **STEP),
     ForC(
-        'nadrelgos_setup', calls='setup', event=False, **SETUP,
+        'nadrelgos_setup', calls='panel::setup', event=False, out=False, **SETUP,
         faces='facing {n} {k} {zs} ≡ faced ({does})',
         law='faced-as {y} {k} {zs} {n} ({does}) ey en'),
     ForC(
-        'nadrelgos_step', calls='step', parameters=['u8', 'u8', 'u64', 'u64', 'bytes'],
+        'nadrelgos_step', calls='panel::step', parameters=['u8', 'u8', 'u64', 'u64', 'bytes'],
         does='stepOf h ys e xs4 (length os)',
         said=STEP['said'],
         event_does='stepOf h ys (eventOf e0 e1 e2 e3) xs4 (length os)',
         faces='(facing {n} {k} {zs} ≡ faced ({event_does})) × ({us} ≡ laid ({event_does} .bytes) os)',
         law='step-faced {y} h {k} ys {zs} e (eventOf e0 e1 e2 e3) xs4 os {us} {n} ee ey en'),
+    Look(),
+    Keep(),
+    Make(),
+    Step(),
 ]
 
 if __name__ == '__main__':
     for walk in WALKS:
-        walk.write()
+        walk.write(sys.argv[1] if sys.argv[1:] else ROOT)

@@ -59,7 +59,7 @@ class OnCopies(Shape):
             lemma('is-made', f'(k : Coordinator) (zs : List Node) (y : Outcome) → {parts}\n    → Is S.the-row (made k zs y) ({RESULT.listed("made k zs y")})',
                   'LL.owes S.the-type S′.the-laws (made k zs y) (isk, (is-table zs isz, (isy, tt)))', 'k zs y isk isz isy', 0),
             lemma('is-y', f'(y : Outcome) (z : Val) → Is An.the-row y (z ∷ []) → Is An.the-row y ({OUTCOME.listed("y")})',
-                  f'subst (Is An.the-row y) ({OUTCOME.tells} y _ is) is', 'y z is', 0)])
+                  OUTCOME.told('y', '_', 'is'), 'y z is', 0)])
 
     def contracts(self):
         """the contract that the proof cites"""
@@ -136,8 +136,7 @@ class OnCopies(Shape):
         borrow, back, law = x.lending(w.location('d'), w.location('ns'))
         w.use([cell], x.whole.as_cell(f'{x.shape} {x.now}', place), cell)
         w.push(x.whole.owned(x.now, x.is_now), 'plain')
-        w.use([cell, 'plain'], f'use2 W (later (some (λ (δ : GName). ‵ ({borrow}) ⊛ ‵ ({back})))) ({law}) $ await ! tt $ pick ! (λ {x.place.name}. split ! $',
-              x.held, f'lent {x.local}')
+        w.find([cell, 'plain'], ('δ', 'GName'), f'‵ ({borrow}) ⊛ ‵ ({back})', law, x.place.name, x.held, f'lent {x.local}')
 
     def call_step(self, w):
         """let a = STEP(&mut d, &mut ns, .., out)"""
@@ -163,8 +162,7 @@ class OnCopies(Shape):
         """the cell of a local whose lifetime is dead, with the values of what it ended as, and the proof that these are right"""
         cell, place, row, value = f'cell {x.local}', f'{w.location(x.local)} 0', x.whole.row, f'{x.shape} ({end})'
         back = f'‵ (cellAt fullShare ({row} .mir) {values} {place}) ⊛ ‵ ({row} .own ({end}) {values})'
-        w.use([f'dead {x.local}', f'lent {x.local}', x.ended], f'use3 W (later (some (λ ({values} : List Val). {back}))) ({x.giving_back(end, place)})'
-              f' $ await ! tt $ pick ! (λ {values}. split ! $', cell, 'plain')
+        w.find([f'dead {x.local}', f'lent {x.local}', x.ended], (values, 'List Val'), back, x.giving_back(end, place), values, cell, 'plain')
         w.say(x.whole.spelt(end, values, place))
         w.use(['plain'], x.whole.peeks(end, value, proof))
         w.use([cell], x.whole.as_local(value, place), cell)

@@ -1,10 +1,10 @@
-"""The parameters of a walked function and the arguments of its calls: what the parts of a proof say of each. Here are those that keep what they are, by value
-or shared; lent.py has those that are lent for writing."""
-from collections import namedtuple
+"""The parameters of a walked function and the arguments of its calls: what the parts of a proof say of each, and of several in a row. Here are those by value;
+borrows.py has the references, and lent.py those that are lent for writing."""
+from copy import copy
 
 from names import laws, types
-from rows import U8, WIDTH, Enum, UInt
-from terms import abbrev, consed, fits, grouped, nest, nth, product, token, tokens
+from rows import Enum, UInt
+from terms import consed, grouped, nest, nth, product, token, tokens
 
 
 class Parameter:
@@ -22,6 +22,7 @@ class Parameter:
     and what stands here, where it is something else."""
     uses = knows = actual_proof = ''
     temporaries = ()                                # the locals that the compiler adds to pass it on
+    source = None                                   # as an argument, what it was before it stood among those of the call
     lifetime = share = None                         # those of a borrow
     held = None                                     # the item that owns it from entry on; None where that can be made at any time from what is known
     final = ()                                      # the items that are left of it at exit, with what they say
@@ -31,6 +32,17 @@ class Parameter:
 
     def stand(self, i, j, count):
         """sets what depends on where it stands: it is parameter i, and its lifetime is j of so many"""
+
+    def operand(self, w):
+        """what a call reads"""
+        return w.read(self.passed)
+
+    def lend(self, w):
+        """gets it ready for a call, at its place among the arguments: here it is"""
+
+    def says(self):
+        """what the items of it say, by their names"""
+        return {}
 
     def define(self, indent=2):
         """the abbreviations for it"""
@@ -60,7 +72,7 @@ class Value(Parameter):
     def __init__(self, name, of, term, value, proof):
         self.name = self.passed = name
         self.type, self.term = of.type, term
-        self.row, self.value, self.typed = of.row, value, of.typed(term, proof)
+        self.row, self.value, self.typed, self.mirror = of.row, value, of.typed(term, proof), grouped(of.mirror)
         self.binds, self.knows = f'({term} : {of.type})', f'({proof} : Is {of.row} {term} ({of.listed(term)}))'
         self.vals, self.tells, self.stays = of.vals, of.tells, f'stay-none (λ _. {of.row}) yes'
         self.given = self.left = ('plain', of.owned(term, proof))
@@ -69,6 +81,37 @@ class Value(Parameter):
         """it stays what it is"""
         self.actual, self.actual_proof = f'({nth("a", i)})', f'({nth("are", i)})'
         self.goes = f'goes-none 𝓤 H A W {count} (λ _. {self.row}) yes (λ κs x f. refl)'
+
+
+class Spelt(Value):
+    """something by value that is known at its value as the row spells it"""
+
+    def __init__(self, name, of, term, proof):
+        super().__init__(name, of, term, of.value(term), proof)
+        self.knows = f'({proof} : Is {of.row} {term} ({self.value} ∷ []))'
+
+
+class Field(Value):
+    """a field of a local, as an argument: by its number, those of a field in a field the outer first"""
+
+    def __init__(self, local, path, of, term, proof):
+        super().__init__(local, of, term, of.value(term), proof)
+        self.path = path
+
+    def operand(self, w):
+        """the field"""
+        return w.field(self.name, *self.path)
+
+
+class Zero(Value):
+    """the number 0, as an argument"""
+
+    def __init__(self):
+        super().__init__('0', UInt('usize'), '0', 'vint w64 0', '(refl, lit< tt)')
+
+    def operand(self, w):
+        """the literal"""
+        return 'lit ! tt'
 
 
 class Number(Value):
@@ -88,97 +131,25 @@ class Case(Value):
         self.uses = types([of]) + laws([of])
 
 
-# where a borrow stands: its lifetime and the share of that, the block and the offset in it, and its name
-Place = namedtuple('Place', 'lifetime share block offset name')
-
-
-def marked(mark):
-    """a place whose parts have a mark of their own"""
-    return Place(f'κ{mark}', f'q{mark}', f'b{mark}', f'o{mark}', f'γ{mark}')
-
-
-class Borrow(Parameter):
-    """a reference at a place, to what is `now` at entry"""
-
-    def __init__(self, name, place, term, type_, now):
-        self.name, self.passed, self.held, self.ended = name, name, f'own {name}', f'ended {name}'
-        self.place, self.lifetime, self.share, self.now = place, place.lifetime, place.share, now
-        self.type, self.term = f'RefT {grouped(type_)}', term
-        self.binds = f'({place.block} {place.offset} : ℕ) ({place.name} : GName) ({now} : {type_})'
-        self.given, self.left = (self.held, None), (self.ended, None)
-
-    def stand(self, i, j, count):
-        """where it stands, and what it leads to"""
-        self.j, a = j, nth('a', i)
-        self.actual = f'({a} .ptr .0) ({a} .ptr .1) ({a} .name) ({a} .now)'
-
-    def named(self, name):
-        """the reference, under a name"""
-        return f'record {{ ptr = ({self.place.block}, {self.place.offset}); name = {name}; now = {self.now} }}'
-
-    def reference(self, indent):
-        """the term for it"""
-        return abbrev(self.term, self.type, self.named(self.place.name), indent=indent)
-
-    def define(self, indent=2):
-        """the reference"""
-        return self.reference(indent)
-
-
-class Slice(Borrow):
-    """a reference to several of a row"""
-    vals = 'slice-vals'
-
-    def __init__(self, name, place, term, value, of, now, room):
-        super().__init__(name, place, term, f'List {of.type}', now)
-        self.of, self.value, self.room = of, value, room
-        self.typed, self.knows = fits(room), f'({room} : Room {of.row} (length {now}))'
-
-    def stand(self, i, j, count):
-        """and that there is room"""
-        super().stand(i, j, count)
-        self.actual_proof = f'({nth("are", i)} .0 .1)'
-
-    def define(self, indent=2):
-        """the reference, and its value"""
-        value = f'sliceVal ({self.place.block}, {self.place.offset}) (length {self.now})'
-        return self.reference(indent) + abbrev(self.value, 'Val', value, indent=indent)
-
-
-class Bytes(Slice):
-    """`&[u8]`, the k-th of the parameters between: a callee reads it, and at exit it is still there"""
-
-    def __init__(self, k):
-        super().__init__(f'rb{k}', marked(f'b{k}'), f'rb{k}', f'sb{k}', U8, f'xs{k}', f'room-b{k}')
-        self.copied = f'copy {self.name}'
-        self.given, self.left = (self.copied, None), (self.held, None)
-
-    def stand(self, i, j, count):
-        """it is shared, and stays what it is"""
-        super().stand(i, j, count)
-        self.row, self.tells = f'ShrSlice (named {j}) {self.lifetime} u8', f'shr-slice-tells (named {j}) ({nth("κs", j)}) u8'
-        self.stays = f'stay-none-slice ({j} ∷ []) tt (plain (λ _. u8)) yes'
-        self.goes = f'goes-none-slice 𝓤 H A W {count} ({j} ∷ []) tt (plain (λ _. u8)) yes'
-        self.final = [(self.held, f'‵ ({self.own})')]
-
-    def double(self, w):
-        """once for a callee, once for exit"""
-        law = f'shr-slice-copy 𝓤 H A W (named {self.j}) {self.lifetime} u8 .twice {self.term} ({self.value} ∷ [])'
-        w.use([self.held], f'use1 W (‵ ({self.own}) ⊛ ‵ ({self.own})) ({law}) $ split ! $', self.held, self.copied)
-
-
-def parameter(k, kind):
-    """the k-th of the parameters between, by its kind: bytes, a number's type, or the name of an enum"""
-    if kind == 'bytes':
-        return Bytes(k)
-    return Number(k, kind) if kind in WIDTH else Case(k, kind)
-
-
 class Arguments(list):
     """parameters or arguments in their order, without those that are absent; and the terms over all of them"""
 
     def __init__(self, arguments):
         super().__init__(x for x in arguments if x)
+
+    @classmethod
+    def of_call(cls, *arguments):
+        """those of a call, which stand where they do there"""
+        passed = cls(copy(x) for x in arguments)
+        for x, source in zip(passed, arguments):
+            x.source = source
+        passed.stand()
+        return passed
+
+    def lend(self, w):
+        """gets them ready for a call"""
+        for x in self:
+            x.lend(w)
 
     def stand(self):
         """numbers them, and the lifetimes of those that are borrows"""
@@ -197,9 +168,9 @@ class Arguments(list):
         """of these lifetimes"""
         return [x.share for x in self if x.lifetime]
 
-    def tokens(self):
+    def tokens(self, last='‵ ftrue'):
         """that these lifetimes last, as one item"""
-        return tokens(self.lifetimes, self.shares)
+        return tokens(self.lifetimes, self.shares, last)
 
     def ghost(self, terms, values):
         """what a contract is used at, with names for the terms and the values"""
@@ -231,7 +202,7 @@ class Arguments(list):
 
     def read(self, w):
         """the operands of a call"""
-        return w.operands([w.read(x.passed) for x in self])
+        return w.operands([x.operand(w) for x in self])
 
     def given(self):
         """what a callee is given of them"""

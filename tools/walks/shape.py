@@ -1,13 +1,26 @@
 """What the walks of all shapes share: the proof of one function, part by part."""
 import os
+from collections import namedtuple
 
+from borrows import Bytes
 from lent import LentSlice
-from names import LIBRARIES, OWN, dash, definitions, key, laws, shared, trimmed, types, walked
-from parameters import Arguments, parameter
+from names import dash, definitions, key, laws, libraries, shared, trimmed, types, walked
+from parameters import Arguments, Case, Number
+from rows import NOTHING, WIDTH
 from terms import ABOUT_WALK, G, abbrev, bound, consed, grouped, lemma, nest, nth
 from walk import Walk
 
-ROOT = os.path.dirname(os.path.dirname(os.path.dirname(os.path.abspath(__file__))))
+# the tables of a program that a walk is over: what binds them and their names, what calls and loops are in them, and what they are where the walk is used
+Tables = namedtuple('Tables', 'binds names calls loops actual')
+APART = Tables('(C : Calls 𝓤 H) (Λ : Loops 𝓤 H)', 'C Λ', 'C', 'Λ', '(𝓣 .C) (𝓣 .Λ)')
+WHOLE = Tables('(𝓣 : Tables 𝓤 H)', '𝓣', '(𝓣 .C)', '(𝓣 .Λ)', '𝓣')
+
+
+def parameter(k, kind):
+    """the k-th of the parameters between, by its kind: bytes, a number's type, or the name of an enum"""
+    if kind == 'bytes':
+        return Bytes(k)
+    return Number(k, kind) if kind in WIDTH else Case(k, kind)
 
 
 class Shape:
@@ -15,8 +28,12 @@ class Shape:
     absent. A fact is a text with holes: for other facts, by their names, and for what the shape fills in.
 
     Each shape has the parts `head`, `known`, `contracts`, `setting`, `exits`, `asked` and `walk`; here are the other parts, and what those are made of."""
+    own = 'panel'               # the function's crate
     alias = ''                  # under which the function's statement is imported
     tokens_apart = True         # whether the walk takes the tokens apart; if not, they are one item, `toks`
+    tables = APART              # the tables of the program that the walk is over
+    no_tokens = '‵ ftrue'       # layout: what stands for no more tokens,
+    apart = '\n      '          # and between the parts of a long line
 
     def __init__(self, function, before, kinds, after, callees, facts):
         self.function, self.callees, self.facts = function, [callee for callee in callees if callee], facts
@@ -38,9 +55,9 @@ class Shape:
         parts = self.head, self.statement, self.known, self.contracts, self.setting, self.exits, self.asked, self.walk, self.foot
         return trimmed(''.join(part() for part in parts))
 
-    def write(self):
-        """writes the proof"""
-        folder, text = os.path.join(ROOT, 'crates', OWN, 'proofs', self.function), self.text()
+    def write(self, tree):
+        """writes the proof into a tree of crates"""
+        folder, text = os.path.join(tree, 'crates', self.own, 'proofs', self.function), self.text()
         os.makedirs(folder, exist_ok=True)
         with open(os.path.join(folder, 'Proof.antt'), 'w', encoding='utf-8') as file:
             file.write(text)
@@ -49,8 +66,8 @@ class Shape:
     def imports(self, about, rows, first=(), own=()):
         """the first line, and the imports: of definitions those named first, then all others; of the panel's own proofs/ those named"""
         return ''.join([
-            f'-- `{OWN}::{self.function}`: {about} Written by tools/walks.\n', LIBRARIES, types(rows), definitions(*first), shared(*own), laws(rows),
-            *(x.uses for x in self.between), *(callee.uses for callee in self.callees), walked(self.function, self.alias), '\n'])
+            f'-- `{self.own}::{self.function}`: {about} Written by tools/walks.\n', libraries(self.own), types(rows), definitions(self.own, *first), shared(self.own, *own),
+            laws(rows), *(x.uses for x in self.between), *(callee.uses(self.own) for callee in self.callees), walked(self.own, self.function, self.alias), '\n'])
 
     def statement(self):
         """the type of the arguments, and how each parameter comes to exit"""
@@ -87,9 +104,10 @@ class Shape:
     def exit_lemma(self, over, said, of, result, value):
         """`exits`: what is left at exit, with what the function ensures and a result of a row and its value, is what is to hold"""
         items = consed(says for _, says in self.final())
-        premises = [bound(over)] + [x.same_length() for x in self.slices] + [said, f'Is {of.row} {grouped(result)} ({value} ∷ [])']
-        names = [name for name, _ in over] + [x.kept for x in self.slices] + ['e', 'is']
-        return lemma('exits', f'{" → ".join(premises)}\n      → ent 𝓤 (⋆ 𝓤 H A ({items})) (Post {grouped(value)})',
+        gives = of is not NOTHING
+        premises = [bound(over)] + [x.same_length() for x in self.slices] + [said] + [f'Is {of.row} {grouped(result)} ({value} ∷ [])'] * gives
+        names = [name for name, _ in over] + [x.kept for x in self.slices] + ['e'] + ['is'] * gives
+        return lemma('exits', f'{" → ".join(premises)}{self.apart}→ ent 𝓤 (⋆ 𝓤 H A ({items})) (Post {grouped(value)})',
                      f'\n      qed W ({items}) ∵\n{self.exit_steps(of, result, value)}', ' '.join(names))
 
     def exit_steps(self, of, result, value):
@@ -113,21 +131,31 @@ class Shape:
     # The walk.
     def walk_lemma(self, w, last):
         """`walk`, from what is known of the callees: the steps, closed by the last one"""
-        premises = ' '.join(f'({callee.known} : {callee.premise("C")})' for callee in self.callees)
+        text, tables = self.walk_text(w, last), self.tables
+        premises = ' '.join(f'({callee.known} : {callee.premise(self.tables.calls)})' for callee in self.callees)
         entry = f'onEntry 𝓤 H A {self.alias}.signature {self.lifetimes} {self.shares} a at'
-        return (f'  module _ (C : Calls 𝓤 H) (Λ : Loops 𝓤 H) (fm : FmC 𝓤 H (W .laws) C) {premises} where\n'
-                f'    walk : ent 𝓤 ({entry}) (WpFn 𝓤 H C Λ code.function args Post)\n    walk =\n{w.text(last)}\n')
+        return (f'  module _ {tables.binds} (fm : FmC 𝓤 H (W .laws) {tables.calls}) {premises} where\n{self.within()}'
+                f'    walk : ent 𝓤 ({entry}) (WpFn 𝓤 H C Λ code.function args Post)\n    walk =\n{text}\n')
+
+    def walk_text(self, w, last):
+        """its steps"""
+        return w.text(last)
+
+    def within(self):
+        """what stands before it"""
+        return ''
 
     def enter(self, names, types=()):
         """a walk that has entered the function, with the locals of the parameters and then these, some of given types, and has what is owned of each parameter"""
         w = Walk.at_entry(['return', *(x.name for x in self.parameters), *names], types)
-        tokens = f'({self.parameters.tokens()})' if self.tokens_apart else 'toks'
+        tokens = f'({self.parameters.tokens(self.no_tokens)})' if self.tokens_apart else 'toks'
         w.say(f'qed W ({tokens} ∷ ‵ (owns ({self.parameters.rows()}) a at) ∷ []) ∵ enter ! C Λ code.function args _ $')
         w.allocate()
         passes = [f'pass1 ! (init ! {w.cell(x.name)} refl {x.typed}) $' for x in self.parameters] + ['pass0 ! $']
         if self.parameters[0].own_line:
             w.say(passes.pop(0))
         w.say(' '.join(passes))
+        w.holds.update({x.name: x.value for x in self.parameters})
         self.take_apart(w)
         return w
 
@@ -144,7 +172,7 @@ class Shape:
     def gather(self, w, arguments):
         """`owned`: what a call is given, the bytes in copies"""
         for x in self.bytes:
-            x.double(w)
+            x.lend(w)
         w.gather(arguments.given())
 
     def leave(self, w):
@@ -174,12 +202,13 @@ class Shape:
 
     def walks(self):
         """the walk at all arguments"""
-        wp, cited = 'WpFn 𝓤 H C Λ code.function', self.cited()
+        tables, cited = self.tables, self.cited()
+        wp = f'WpFn 𝓤 H {tables.calls} {tables.loops} code.function'
         vals, tells = nest(x.vals for x in self.parameters), nest(x.tells for x in self.parameters)
-        return lemma('walks', f'(C : Calls 𝓤 H) (Λ : Loops 𝓤 H) → FmC 𝓤 H (W .laws) C → {self.premises("C")}\n'
+        return lemma('walks', f'{tables.binds} → FmC 𝓤 H (W .laws) {tables.calls} → {self.premises(tables.calls)}\n'
                      f'      → Walks 𝓤 H A {self.alias}.ended stayed ({wp}) ({self.alias}.clauses {G})',
-                     f'walked 𝓤 H A {self.clauses} ({wp}) (λ κs. {vals})\n      (λ κs. {tells})\n'
-                     f'      (λ κs qs bounds a g are. via 𝓤 _ (fst∗ 𝓤 _ (emp 𝓤)) ({self.walk_at()} C Λ fm {cited}))', f'C Λ fm {cited}')
+                     f'walked 𝓤 H A {self.clauses} ({wp}) (λ κs. {vals}){self.apart}(λ κs. {tells})\n'
+                     f'      (λ κs qs bounds a g are. via 𝓤 _ (fst∗ 𝓤 _ (emp 𝓤)) ({self.walk_at()} {tables.names} fm {cited}))', f'{tables.names} fm {cited}')
 
     def goes(self):
         """that each parameter comes to exit as it is said"""
@@ -189,11 +218,11 @@ class Shape:
     def meets(self):
         """that the function meets its contract, in tables in which the callees meet theirs"""
         wp, cited = 'WpFn 𝓤 H (𝓣 .C) (𝓣 .Λ) code.function', self.cited()
-        return lemma('meets', f'{ABOUT_WALK} (𝓣 : Tables 𝓤 H) → {self.premises("𝓣 .C")}\n'
+        return lemma('meets', f'{ABOUT_WALK} (𝓣 : Tables 𝓤 H) → {self.premises(WHOLE.calls)}\n'
                      f'    → Meets 𝓤 H A {self.alias}.signature ({wp}) ({self.alias}.spec {G})',
                      f'walk-meets 𝓤 H A {self.alias}.ended stayed W (goes 𝓤 H A W at-mem run) ({self.alias}.clauses {G}) ({wp}) '
                      f'(WpFn-mono 𝓤 H (W .laws) 𝓣 code.function)\n'
-                     f'    (walks 𝓤 H A W at-mem run (𝓣 .C) (𝓣 .Λ) (fmOf 𝓤 H (W .laws) 𝓣) {cited})', f'𝓤 H A W at-mem run 𝓣 {cited}', 0)
+                     f'    (walks 𝓤 H A W at-mem run {self.tables.actual} (fmOf 𝓤 H (W .laws) 𝓣) {cited})', f'𝓤 H A W at-mem run 𝓣 {cited}', 0)
 
     def spec(self):
         """the function's statement"""
@@ -202,7 +231,7 @@ class Shape:
 unfolding code.routine tablesOf
 {name}-spec 𝓤 H 𝓜 𝓖 𝓡 =
     entered 𝓤 H (tripleOf 𝓤 H (𝓖 .A) {self.alias}.signature ({self.alias}.spec 𝓤 H (𝓖 .A) (𝓜 .mem) (𝓡 .run)))
-    (tables 𝓤 H 𝓜 𝓡 code.env .C) (tables 𝓤 H 𝓜 𝓡 code.env .Λ) {key(self.function)} code.function (code.unfolded 𝓤 H 𝓜 𝓡)
+    (tables 𝓤 H 𝓜 𝓡 code.env .C) (tables 𝓤 H 𝓜 𝓡 code.env .Λ) {key(self.own, self.function)} code.function (code.unfolded 𝓤 H 𝓜 𝓡)
     (meets 𝓤 H (𝓖 .A) (givenOf 𝓤 H 𝓜 𝓖) (𝓜 .mem) (𝓡 .run) (tablesOf 𝓤 H 𝓜 (tables 𝓤 H 𝓜 𝓡 code.env))
     {callees})
 '''

@@ -50,6 +50,11 @@ def grouped(term):
     return term
 
 
+def ungrouped(term):
+    """a term where a function stands: without the parentheses around all of it"""
+    return term[1:-1] if term.startswith('(') and grouped(term) == term else term
+
+
 def bound(pairs):
     """(a : A) (b : B)"""
     return ' '.join(f'({name} : {kind})' for name, kind in pairs)
@@ -76,9 +81,9 @@ def token(lifetime, share):
     return f'‵ (flft {lifetime} {share})'
 
 
-def tokens(lifetimes, shares):
+def tokens(lifetimes, shares, last='‵ ftrue'):
     """the tokens of several lifetimes, as one item"""
-    return chained(map(token, lifetimes, shares), ' ⊛ ', '‵ ftrue').removeprefix('(').removesuffix(')')
+    return ungrouped(chained(map(token, lifetimes, shares), ' ⊛ ', last))
 
 
 def fits(room):

@@ -3,15 +3,24 @@ so that none is counted by hand."""
 from terms import consed, fits, grouped, location
 
 
+def into(path):
+    """a field, by the numbers of the fields on the way, the outer first: the place, and the part of the cell that it is"""
+    place, part = '(stop !)', '(whole !)'
+    for i in path:
+        place, part = f'(fld ! refl {place})', f'(sub ! {i} refl {part})'
+    return place, part
+
+
 class Walk:
     """`ctx` is the context as a list of names, the head first, and `locals` are those of the function, by names, in the compiler's order; `types` are those that
-    the walk itself gives for some of them. Each method appends a line to `lines` and changes `ctx` as the step does.
+    the walk itself gives for some of them, and `holds` has those that have been written, with their values where a stage asks for these; `statements` counts the
+    writes, each of which is a statement of the code. Each method appends a line to `lines` and changes `ctx` as the step does.
 
     Names of items: `cell X` is the cell of the local X and `freeing X` what frees it; `tokens` are those of several lifetimes and `owned` is what is owned of
     several parameters, each as one item; `plain` is the ownership of something by value, which is made and given up at will."""
 
     def __init__(self, ctx, names=(), types=()):
-        self.ctx, self.locals, self.types, self.lines = list(ctx), list(names), dict(types), []
+        self.ctx, self.locals, self.types, self.lines, self.holds, self.statements = list(ctx), list(names), dict(types), [], {}, 0
 
     @classmethod
     def at_entry(cls, names, types):
@@ -37,18 +46,32 @@ class Walk:
         """those of several, as a list of the proofs' language"""
         return consed(str(self.at(name)) for name in names)
 
+    def brought(self, *names):
+        """the step that brings items to the head"""
+        step = f'move ! ({self.positions(names)}) $'
+        self.ctx = list(names) + [name for name in self.ctx if name not in names]
+        return step
+
     def move(self, *names):
         """brings items to the head"""
-        self.say(f'move ! ({self.positions(names)}) $')
-        self.ctx = list(names) + [name for name in self.ctx if name not in names]
+        self.say(self.brought(*names))
 
     def use(self, names, line, *new):
-        """a step that turns the items at the head into new ones"""
+        """a step that turns the items at the head into new ones; they are brought there first, in the same line"""
         if self.ctx[:len(names)] != list(names):
-            self.move(*names)
+            line = f'{self.brought(*names)} {line}'
         self.say(line)
         self.ctx[:len(names)] = new
         assert len(set(self.ctx)) == len(self.ctx), f'two items under one name: {new} among {self.ctx}'
+
+    def turn(self, names, parts, law, *new):
+        """a step that turns the items at the head into two, by a law"""
+        self.use(names, f'use{len(names)} W (later ({parts})) ({law}) $ await ! tt $ split ! $', *new)
+
+    def find(self, names, bound, parts, law, found, *new):
+        """the same for parts that are over something that the law finds, bound as (name, type)"""
+        name, kind = bound
+        self.use(names, f'use{len(names)} W (later (some (λ ({name} : {kind}). {parts}))) ({law}) $ await ! tt $ pick ! (λ {found}. split ! $', *new)
 
     def push(self, line, name):
         """a step that adds an item: owned, nothing, lft-new"""
@@ -118,9 +141,10 @@ class Walk:
         """an operand: the local"""
         return f'load ! (from ! (stop !)) (look ! {self.cell(local)} refl)'
 
-    def field(self, local, i):
-        """an operand: field i of the local"""
-        return f'load ! (from ! (fld ! refl (stop !))) (look-in ! {self.cell(local)} (sub ! {i} refl (whole !)))'
+    def field(self, local, *path):
+        """an operand: a field of the local"""
+        place, part = into(path)
+        return f'load ! (from ! {place}) (look-in ! {self.cell(local)} {part})'
 
     def operands(self, operands):
         """several operands"""
@@ -133,36 +157,44 @@ class Walk:
         """the place that the reference in a local leads to"""
         return f'hop ! (look ! {self.cell(local)} refl) (stop !)'
 
-    def assign(self, local, value, typed):
-        """local = value"""
-        self.say(f'assigns ! ({value}) (from ! (stop !)) (init ! {self.cell(local)} refl {typed}) $')
+    def write(self, local, typed, value):
+        """the local, to which a value is written: for the first time, or again"""
+        step = 'store' if local in self.holds else 'init'
+        self.statements += 1
+        self.holds[local] = value
+        return f'(from ! (stop !)) ({step} ! {self.cell(local)} refl {typed}) $'
 
-    def copy(self, local, operand, typed):
+    def assign(self, local, source, typed, value=None):
+        """local = source"""
+        self.say(f'assigns ! ({source}) {self.write(local, typed, value)}')
+
+    def copy(self, local, operand, typed, value=None):
         """local = operand"""
-        self.assign(local, f'of-opd ! ({operand})', typed)
+        self.assign(local, f'of-opd ! ({operand})', typed, value)
 
-    def aggregate(self, local, operands, typed):
+    def aggregate(self, local, operands, typed, value=None):
         """local = (operands)"""
-        self.assign(local, f'agg ! {self.operands(operands)}', typed)
+        self.assign(local, f'agg ! {self.operands(operands)}', typed, value)
 
-    def address(self, local, place='stop !'):
+    def address(self, local, place='stop !', value=None):
         """local = &place"""
-        self.assign(local, f'addr ! (from ! ({place}))', '(tt, tt)')
+        self.assign(local, f'addr ! (from ! ({place}))', '(tt, tt)', value)
 
-    def reborrow(self, source, to, room):
+    def reborrow(self, source, to, room, values=(None, None)):
         """to.ref = &*source.0; to.slice = (to.ref, source.1)"""
-        self.address(f'{to}.ref', f'fld ! refl (hop ! (look-in ! {self.cell(source)} (sub ! 0 refl (whole !))) (stop !))')
-        self.aggregate(f'{to}.slice', [self.read(f'{to}.ref'), self.field(source, 1)], fits(room))
+        self.address(f'{to}.ref', f'fld ! refl (hop ! (look-in ! {self.cell(source)} (sub ! 0 refl (whole !))) (stop !))', values[0])
+        self.aggregate(f'{to}.slice', [self.read(f'{to}.ref'), self.field(source, 1)], fits(room), values[1])
 
-    def land(self, local, typed):
+    def land(self, local, typed, value=None):
         """local = what the call gave"""
-        self.say(f'land ! (from ! (stop !)) (init ! {self.cell(local)} refl {typed}) $')
+        self.say(f'land ! {self.write(local, typed, value)}')
 
     def spell(self, local, row, term, proof, bound):
         """the value of a local is that of the term, so that its fields can be read"""
         type_ = grouped(self.types.get(local, row.mirror))
         cell = f'λ ({bound} : Val). ‵ (fat fullShare {type_} {self.location(local)} 0 {bound})'
         self.say(f'rewrite ! {self.cell(local)} ({cell}) (ap only ({row.tells} {term} _ {proof})) refl $')
+        self.holds[local] = row.value(term)
 
     def leave(self):
         """returns, and frees the locals"""

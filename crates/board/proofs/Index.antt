@@ -1,20 +1,19 @@
 -- A board's index among the boards of its kind.
 use Prim.Native.Nat.{ℕ, _-_, _≤_, _<_}
 use native.Mathlib.Omega.{arith}
-use mathlib.Core.Path.{_≡_, refl, sym, _∙_, ap}
+use mathlib.Core.Path.{_≡_, refl, sym, ap}
 use mathlib.Core.List.{List}
 use mathlib.Core.Bool.{Bool, true, false, not, _&&_}
-use lib.ListN.{getD, length}
+use lib.ListN.{length}
 use lib.Dec.{eqb, ltb}
 use borrow.Author.Tests.{eq-eqb, ltb-true, ltb-false}
 use Rattle.ground.proofs.Choices.{both}
 use Rattle.ground.proofs.Loops.{count-le, count-no, count-past}
 use Rattle.board.specs.declared.Node.{Node}
 use Rattle.board.specs.declared.Wanted.the-variants.{Kind}
-use Rattle.board.specs.Node.{none}
 use Rattle.board.specs.Table.{at, listedAt}
 use Rattle.board.specs.Wanted.{wantedAt, ofKindBelow, indexOf}
-use Rattle.board.proofs.Positions.{at-position, at-past, listed-within}
+use Rattle.board.proofs.Positions.{at-past, listed-within}
 
 -- no listed board is of kind 0
 pub of-kind-none : (t : List Node) (p : ℕ) → ofKindBelow t 0 p ≡ 0
@@ -28,11 +27,6 @@ of-kind-none t p = count-no _ p (λ i l. never (eqb (at t i .kind) 0))
 pub index-nobody : (t : List Node) (p : ℕ) → at t p .kind ≡ 0 → 0 ≡ indexOf t p
 unfolding indexOf
 index-nobody t p e = rw e (sym (of-kind-none t p))
-
--- the index at a position of the table, where the record is the element before it
-pub index-here : (t : List Node) (p r : ℕ) → r ≡ ofKindBelow t (getD t (p - 1) none .kind) p → 0 < p → r ≡ indexOf t p
-unfolding indexOf
-index-here t p r e h = e ∙ ap (λ (n : Node). ofKindBelow t (n .kind) p) (sym (at-position t p h))
 
 -- in a table of forty records an index is at most 40, so that it fits a byte
 pub index-within : (t : List Node) (p : ℕ) → length t ≡ 40 → indexOf t p ≤ 40

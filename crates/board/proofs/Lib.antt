@@ -2,7 +2,9 @@ pub mod Positions
 pub mod LowestWanted
 pub mod Index
 pub mod SameKinds
+pub mod Columns
 pub mod NextListed
 pub mod Changes
+pub mod Cleared
 pub mod Unique
 pub mod Counts

@@ -10,11 +10,12 @@ use lib.Dec.{ltb, leb}
 use borrow.Author.Tests.{lt-ltb, le-ltb, ltb-true, ltb-false, leb-true, leb-false}
 use Rattle.ground.specs.Below.{upFrom, firstOr}
 use Rattle.ground.proofs.Choices.{choose-yes, choose-no}
-use Rattle.ground.proofs.Firsts.{FirstCase, None, first-case, first-append, first-found, first-else}
+use Rattle.ground.proofs.Firsts.{FirstCase, None, first-case, first-append, first-found, first-else, first-of-fewer}
 use Rattle.board.specs.declared.Node.{Node}
 use Rattle.board.specs.Table.{listedAt}
+use Rattle.board.specs.Wanted.{highestListed}
 use Rattle.board.specs.Round.{round, nextListed, distance, reached}
-use Rattle.board.proofs.LowestWanted.{listed-zero}
+use Rattle.board.proofs.LowestWanted.{highest-within, none-above, listed-zero}
 
 -- the positions after a, whether or not a is cut at k
 rest : (k a b : ℕ) → b ≡ min a k → upFrom (b + 1) (k - b) ≡ upFrom (a + 1) (k - a)
@@ -38,6 +39,19 @@ next-after t k a top last r et el er h = rw (← et) (er ∙ first-found _ (list
 pub next-round : (t : List Node) (k a top last s r : ℕ) → top ≡ min k 40 → last ≡ min a top → s ≡ firstOr 0 (listedAt t) (upFrom (last + 1) (top - last)) → s ≤ 0 → r ≡ firstOr 0 (listedAt t) (upFrom 1 last) → r ≡ nextListed t k a
 unfolding nextListed
 next-round t k a top last s r et el es h er = rw (← et) (first-else r (listedAt t) _ (listed-zero t) (omega (arith, es)) ∙ ap (firstOr r (listedAt t)) (rest top a last el) ∙ rw (er, el) (sym (looks (listedAt t) top a)))
+
+-- going round from m to 1 in place of from k to 1 finds the same where none above m passes, wherever it begins, also above m
+round-of-fewer : (p : ℕ → Bool) (k m a : ℕ) → m ≤ k → ((i : ℕ) → m < i → i ≤ k → p i ≡ false) → firstOr 0 p (round k a) ≡ firstOr 0 p (round m a)
+round-of-fewer p k m a h none =
+    looks p k a ∙
+    ap (λ (d : ℕ). firstOr d p (upFrom (a + 1) (k - a))) (first-of-fewer 0 p 1 (min a k) (min a m) (omega arith) (λ i l u. none i (omega arith) (omega arith))) ∙
+    first-of-fewer _ p (a + 1) (k - a) (m - a) (omega arith) (λ i l u. none i (omega arith) (omega arith)) ∙
+    sym (looks p m a)
+
+-- so the next listed position is found going round from the highest one
+pub next-to-top : (t : List Node) (k : ℕ) → highestListed t ≤ k → (a : ℕ) → nextListed t k a ≡ nextListed t (highestListed t) a
+unfolding nextListed
+next-to-top t k within a = round-of-fewer (listedAt t) (min k 40) (min (highestListed t) 40) a (omega arith) (λ i l u. none-above t i (omega (arith, highest-within t)) (omega arith))
 
 -- the distance to a position ahead, and to one that is reached by going round
 ahead : (k a p : ℕ) → a < p → distance k a p ≡ p - a

@@ -12,8 +12,6 @@ use Rattle.ground.proofs.Choices.{choose-yes, choose-no}
 use Rattle.board.specs.declared.Node.{Node}
 use Rattle.board.specs.Node.{none, isListed}
 use Rattle.board.specs.Table.{at, put, listedAt}
-use Rattle.board.specs.declared.Wanted.{Wanted}
-use Rattle.board.specs.Wanted.{wants, wantedAt}
 
 pub at-position : (t : List Node) (p : ℕ) → 0 < p → at t p ≡ getD t (p - 1) none
 unfolding at
@@ -25,10 +23,6 @@ at-zero t p h = rw (let e : p ≡ 0 = omega arith in e) refl
 
 pub at-past : (t : List Node) (p n : ℕ) → length t ≡ n → n < p → at t p ≡ none
 at-past t p n e h = at-position t p (omega arith) ∙ List·getD-eq-default t none (omega arith)
-
--- what the test of the element before p says of position p
-pub looked : (t : List Node) (w : Wanted) (p : ℕ) {r : Bool} → r ≡ wants w (getD t (p - 1) none) → 0 < p → r ≡ wantedAt w t p
-looked t w p e h = e ∙ ap (wants w) (sym (at-position t p h))
 
 pub put-position : (t : List Node) (p : ℕ) (n : Node) → 0 < p → put t p n ≡ set t (p - 1) n
 unfolding put

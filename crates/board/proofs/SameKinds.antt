@@ -6,9 +6,10 @@ use mathlib.Core.List.{List}
 use lib.Dec.{eqb}
 use Rattle.ground.specs.Below.{upFrom, firstOr, count, highest}
 use Rattle.board.specs.declared.Node.{Node}
-use Rattle.board.specs.declared.Wanted.the-variants.{Kind}
+use Rattle.board.specs.declared.Wanted.the-variants.{Listed, Free, Kind}
 use Rattle.board.specs.Table.{at, listedAt}
 use Rattle.board.specs.Wanted.{wantedAt, lowestOf, highestListed, ofKindBelow, indexOf}
+use Rattle.board.specs.Round.{round, nextListed}
 
 -- the same type at every position
 pub record SameKinds (t u : List Node) : Type 0 where
@@ -27,6 +28,21 @@ module _ {t u : List Node} (same : SameKinds t u) where
   pub kinds-lowest : (kind k : ℕ) → lowestOf t (Kind kind) k ≡ lowestOf u (Kind kind) k
   unfolding lowestOf
   kinds-lowest kind k = ap (λ (f : ℕ → Bool). firstOr 0 f (upFrom 1 (min k 40))) (kinds-wanted kind)
+
+  -- the lowest listed position
+  pub kinds-first : (k : ℕ) → lowestOf t Listed k ≡ lowestOf u Listed k
+  unfolding lowestOf
+  kinds-first k = ap (λ (f : ℕ → Bool). firstOr 0 f (upFrom 1 (min k 40))) kinds-listed
+
+  -- the lowest free position
+  pub kinds-free : (k : ℕ) → lowestOf t Free k ≡ lowestOf u Free k
+  unfolding lowestOf
+  kinds-free k = ap (λ (f : ℕ → Bool). firstOr 0 (λ p. not (f p)) (upFrom 1 (min k 40))) kinds-listed
+
+  -- the next listed position
+  pub kinds-next : (k a : ℕ) → nextListed t k a ≡ nextListed u k a
+  unfolding nextListed
+  kinds-next k a = ap (λ (f : ℕ → Bool). firstOr 0 f (round (min k 40) a)) kinds-listed
 
   -- the highest listed position
   pub kinds-highest : highestListed t ≡ highestListed u

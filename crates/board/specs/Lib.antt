@@ -1,5 +1,6 @@
 pub mod Node
 pub mod Table
 pub mod Change
+pub mod Columns
 pub mod Wanted
 pub mod Round

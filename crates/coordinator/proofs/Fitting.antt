@@ -1,7 +1,7 @@
 -- The test of fit decides what fit means, its parts by name, and what it says of the boards that a phase names.
 use Prim.Native.Nat.{ℕ, _≤_}
 use native.Mathlib.Omega.{arith}
-use mathlib.Core.Path.{_≡_, refl, sym, _∙_}
+use mathlib.Core.Path.{_≡_, refl, _∙_}
 use mathlib.Core.Logic.{_⊎_, inl, inr}
 use mathlib.Core.Bool.{Bool, true, false, _&&_, not, false≢true}
 use mathlib.Core.List.{List}
@@ -48,13 +48,6 @@ listed-passes t p l = not-yes (eqb (at t p .kind) 0) (ne-eqb (at t p .kind) 0 l)
 pub listed-some : (t : List Node) (p : ℕ) → length t ≡ 40 → listedAt t p ≡ true → someListed t ≡ true
 unfolding someListed
 listed-some t p e h = some-of (listedAt t) 41 p (omega (arith, listed-within t p e h .1)) h
-
-pub none-listed : (t : List Node) (p : ℕ) → length t ≡ 40 → someListed t ≡ false → listedAt t p ≡ false
-none-listed t p e h = go (listedAt t p) refl
-  where
-    go : (b : Bool) → listedAt t p ≡ b → listedAt t p ≡ false
-    go true l = absurd (false≢true (sym h ∙ listed-some t p e l))
-    go false l = l
 
 -- where somebody is listed, the lowest listed position is one
 pub some-listed : (t : List Node) → someListed t ≡ true → listedAt t (lowestOf t ListedOnes 40) ≡ true

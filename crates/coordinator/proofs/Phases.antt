@@ -1,11 +1,12 @@
 -- A phase that a step makes is the phase of its numbers, and the numbers 0 to 13 are those of a phase that a step makes.
 use Prim.Native.Nat.{ℕ, zero, suc, _≤_, _<_}
 use native.Mathlib.Omega.{arith}
-use mathlib.Core.Path.{_≡_, refl, subst}
+use mathlib.Core.Path.{_≡_, refl, sym, ap, subst, _∙_}
 use mathlib.Core.Bool.{Bool, true, false}
 use lib.Dec.{eqb, leb}
 use borrow.Author.Tests.{ne-eqb, leb-true, leb-false}
 use Rattle.ground.specs.Choose.{choose}
+use Rattle.coordinator.specs.declared.Exchange.{Exchange}
 use Rattle.coordinator.specs.declared.Exchange.the-variants.{Offer, List as Listing, Forward, Return}
 use Rattle.coordinator.specs.declared.Part.{Part}
 use Rattle.coordinator.specs.declared.Part.the-variants.{Search, IdentifyDue, Identify, Present, AssignDue, Assign}
@@ -86,3 +87,27 @@ known-stage s u = go (leb (s .stage) 13) refl
     go : (b : Bool) → leb (s .stage) 13 ≡ b → s .stage ≤ 13
     go true e = leb-true (s .stage) 13 e
     go false e = absurd (u (unknown s (leb-false (s .stage) 13 e)))
+
+-- the board that a phase waits for, or another position where it waits for none
+abbrev waitedIn : ℕ → Phase → ℕ
+waitedIn p Resting = p
+waitedIn p (Awaiting b e q a) = b
+waitedIn p (ForwardDue b q) = p
+waitedIn p (ReturnDue b) = p
+waitedIn p (Seeking position part) = p
+waitedIn p Unknown = p
+
+waited-choice : (p : ℕ) (test : Bool) (x y : Phase) → waitedIn p (choose test x y) ≡ choose test (waitedIn p x) (waitedIn p y)
+unfolding choose
+waited-choice p true x y = refl
+waited-choice p false x y = refl
+
+same-choice : (test : Bool) (p : ℕ) → choose test p p ≡ p
+unfolding choose
+same-choice true p = refl
+same-choice false p = refl
+
+-- a wait is for the board that the numbers name
+pub waited-board : (s : Stand) {b : ℕ} {e : Exchange} {q : ℕ} {a : Bool} → phaseOf s ≡ Awaiting b e q a → b ≡ s .board
+unfolding phaseOf
+waited-board s w = sym (ap (waitedIn (s .board)) w) ∙ simp (waited-choice, same-choice)

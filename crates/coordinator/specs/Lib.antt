@@ -3,3 +3,4 @@ pub mod Fit
 pub mod Fitness
 pub mod Fresh
 pub mod Change
+pub mod State

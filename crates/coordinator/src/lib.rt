@@ -2,9 +2,8 @@
 use board::Table;
 use setup::Setup;
 ghost use mathlib.Core.Path.{_≡_};
-ghost use Rattle.board.specs.Table.{listedAt};
 ghost use Rattle.coordinator.specs.Phase.{phaseOf, stand, stageOf, standOf};
-ghost use Rattle.coordinator.specs.Fit.{isRequest, isResponse, exchangeFits, phaseFits, isFound, partFits, seekFits, holdFits, fits};
+ghost use Rattle.coordinator.specs.State.{stateOf, stated, bare};
 ghost use Rattle.coordinator.specs.Fresh.{blankKept, blankFound, fresh, blankTable};
 ghost use Rattle.coordinator.specs.Change.{withPhase, offered, holding, keeping, searching, finding, ended};
 
@@ -78,6 +77,26 @@ pub struct Found {
     pub kind: u8,
     pub mac: u64,
     pub session: u64,
+}
+
+// The head of the message that is carried: all but its payload.
+pub struct Head {
+    pub message: u8,
+    pub packet: u8,
+    pub kind: u8,
+    pub method: u8,
+    pub parameter: u8,
+    pub length: usize,
+}
+
+// What a step reads of the coordinator besides the setup, and what it may change besides the payload that is kept.
+pub struct State {
+    pub last: usize,
+    pub held: u8,
+    pub searched: u8,
+    pub stand: Stand,
+    pub head: Head,
+    pub found: Found,
 }
 
 // The coordinator's record. `held` is 1 where joins are held, else 0; `searched` is 1 where a discovery was started since
@@ -198,122 +217,6 @@ pub fn stand_of(phase: Phase) -> Stand
     }
 }
 
-fn is_request(m: Kept) -> bool
-    ensures { λ r. ⌜ r ≡ isRequest m ⌝ }
-{
-    (0 < m.message) & (m.message < 128) & (0 < m.method) & (m.method <= 3) & (m.length <= 240)
-}
-
-fn is_response(m: Kept) -> bool
-    ensures { λ r. ⌜ r ≡ isResponse m ⌝ }
-{
-    (128 < m.message) & (m.length <= 240)
-}
-
-fn listed_at(table: Table, position: usize) -> bool
-    ensures { λ r. ⌜ r ≡ listedAt (table .nodes) position ⌝ }
-{
-    let node = board::record_at(table, position);
-    node.kind != 0
-}
-
-// A forward's wait asks for the requester and its request too.
-fn exchange_fits(exchange: Exchange, requester: usize, table: Table, kept: Kept) -> bool
-    ensures { λ r. ⌜ r ≡ exchangeFits exchange requester (table .nodes) kept ⌝ }
-{
-    match exchange {
-        Exchange::Offer => true,
-        Exchange::List => true,
-        Exchange::Forward => listed_at(table, requester) & is_request(kept),
-        Exchange::Return => true,
-    }
-}
-
-// The boards that the phase names are listed, and what is kept is what they need.
-fn phase_fits(phase: Phase, table: Table, kept: Kept) -> bool
-    ensures { λ r. ⌜ r ≡ phaseFits phase (table .nodes) kept ⌝ }
-{
-    match phase {
-        Phase::Resting => true,
-        Phase::Awaiting {
-            board,
-            exchange,
-            requester,
-            acked,
-        } => listed_at(table, board) & exchange_fits(exchange, requester, table, kept),
-        Phase::ForwardDue { board, requester } => {
-            listed_at(table, board) & (listed_at(table, requester) & is_request(kept))
-        }
-        Phase::ReturnDue { board } => listed_at(table, board) & is_response(kept),
-        Phase::Seeking { position, part } => true,
-        Phase::Unknown => false,
-    }
-}
-
-// What was discovered is within the ranges.
-fn is_found(found: Found) -> bool
-    ensures { λ r. ⌜ r ≡ isFound found ⌝ }
-{
-    (found.kind != 0) & (found.kind != 165) & setup::is_mac(found.mac)
-}
-
-// From its response on, what was discovered is needed.
-fn part_fits(part: Part, found: Found) -> bool
-    ensures { λ r. ⌜ r ≡ partFits part found ⌝ }
-{
-    match part {
-        Part::Search => true,
-        Part::IdentifyDue => is_found(found),
-        Part::Identify => is_found(found),
-        Part::Present => is_found(found),
-        Part::AssignDue => is_found(found),
-        Part::Assign => is_found(found),
-    }
-}
-
-// The position at stake is one of 1 to k, and what was discovered is as it should be.
-fn seek_fits(phase: Phase, k: usize, found: Found) -> bool
-    ensures { λ r. ⌜ r ≡ seekFits phase k found ⌝ }
-{
-    match phase {
-        Phase::Resting => true,
-        Phase::Awaiting {
-            board,
-            exchange,
-            requester,
-            acked,
-        } => true,
-        Phase::ForwardDue { board, requester } => true,
-        Phase::ReturnDue { board } => true,
-        Phase::Seeking { position, part } => {
-            (1 <= position) & (position <= k) & part_fits(part, found)
-        }
-        Phase::Unknown => true,
-    }
-}
-
-// Joins are held only where somebody is listed.
-fn hold_fits(held: u8, table: Table) -> bool
-    ensures { λ r. ⌜ r ≡ holdFits held (table .nodes) ⌝ }
-{
-    (held == 0) | ((held == 1) & board::some_listed(table))
-}
-
-// Coordinator and table are fit together.
-pub fn fits(coordinator: Coordinator, table: Table) -> bool
-    ensures { λ r. ⌜ r ≡ fits coordinator (table .nodes) ⌝ }
-{
-    let setup = coordinator.setup;
-    let k = setup.k;
-    let phase = phase_of(coordinator.stand);
-    setup::setup_fits(setup)
-        & (setup::table_fits(k, table)
-            & (phase_fits(phase, table, coordinator.kept)
-                & (seek_fits(phase, k, coordinator.found)
-                    & ((coordinator.searched <= 1)
-                        & (hold_fits(coordinator.held, table) & (coordinator.last <= k))))))
-}
-
 // Nothing is kept.
 fn blank_kept() -> Kept
     ensures { λ r. ⌜ r ≡ blankKept ⌝ }
@@ -363,71 +266,71 @@ pub fn blank_table() -> Table
     Table { nodes: [node; 40] }
 }
 
-// The coordinator in another phase.
-pub fn with_phase(coordinator: Coordinator, phase: Phase) -> Coordinator
-    ensures { λ r. ⌜ r ≡ withPhase coordinator phase ⌝ }
+// The state in another phase.
+pub fn with_phase(state: State, phase: Phase) -> State
+    ensures { λ r. ⌜ r ≡ stateOf (withPhase (stated state) phase) ⌝ }
 {
-    let mut c = coordinator;
-    c.stand = stand_of(phase);
-    c
+    let mut s = state;
+    s.stand = stand_of(phase);
+    s
 }
 
-// The coordinator that has offered a board the bus.
-pub fn offered(coordinator: Coordinator, board: usize) -> Coordinator
-    ensures { λ r. ⌜ r ≡ offered coordinator board ⌝ }
+// The state once a board was offered the bus.
+pub fn offered(state: State, board: usize) -> State
+    ensures { λ r. ⌜ r ≡ stateOf (offered (stated state) board) ⌝ }
 {
-    let mut c = coordinator;
-    c.last = board;
-    c.held = 0;
-    c.searched = 0;
-    c.stand = stand_of(awaiting(board, Exchange::Offer, 0, false));
-    c
+    let mut s = state;
+    s.last = board;
+    s.held = 0;
+    s.searched = 0;
+    s.stand = stand_of(awaiting(board, Exchange::Offer, 0, false));
+    s
 }
 
-// The coordinator with joins held or not.
-pub fn holding(coordinator: Coordinator, held: bool) -> Coordinator
-    ensures { λ r. ⌜ r ≡ holding coordinator held ⌝ }
+// The state with joins held or not.
+pub fn holding(state: State, held: bool) -> State
+    ensures { λ r. ⌜ r ≡ stateOf (holding (stated state) held) ⌝ }
 {
-    let mut c = coordinator;
-    c.held = held as u8;
-    c
+    let mut s = state;
+    s.held = held as u8;
+    s
 }
 
-// The coordinator with another message kept.
-pub fn keeping(coordinator: Coordinator, kept: Kept) -> Coordinator
-    ensures { λ r. ⌜ r ≡ keeping coordinator kept ⌝ }
+// The state with another message kept, whose head this is.
+pub fn keeping(state: State, head: Head) -> State
+    ensures { λ r. ⌜ r ≡ stateOf (keeping (stated state) (bare head)) ⌝ }
 {
-    let mut c = coordinator;
-    c.kept = kept;
-    c
+    let mut s = state;
+    s.head = head;
+    s
 }
 
-// The coordinator that has started a discovery, with the address of a position at stake.
-pub fn searching(coordinator: Coordinator, position: usize) -> Coordinator
-    ensures { λ r. ⌜ r ≡ searching coordinator position ⌝ }
+// The state once a discovery was started, with the address of a position at stake.
+pub fn searching(state: State, position: usize) -> State
+    ensures { λ r. ⌜ r ≡ stateOf (searching (stated state) position) ⌝ }
 {
-    let mut c = coordinator;
-    c.searched = 1;
-    c.stand = stand_of(seeking(position, Part::Search));
-    c
+    let mut s = state;
+    s.searched = 1;
+    s.stand = stand_of(seeking(position, Part::Search));
+    s
 }
 
-// The coordinator that keeps what was discovered, with Get Node ID due to the address at stake.
-pub fn finding(coordinator: Coordinator, found: Found, position: usize) -> Coordinator
-    ensures { λ r. ⌜ r ≡ finding coordinator found position ⌝ }
+// The state that keeps what was discovered, with Get Node ID due to the address at stake.
+pub fn finding(state: State, found: Found, position: usize) -> State
+    ensures { λ r. ⌜ r ≡ stateOf (finding (stated state) found position) ⌝ }
 {
-    let mut c = coordinator;
-    c.stand = stand_of(seeking(position, Part::IdentifyDue));
-    c.found = found;
-    c
+    let mut s = state;
+    s.stand = stand_of(seeking(position, Part::IdentifyDue));
+    s.found = found;
+    s
 }
 
-// The coordinator after an exchange by which a board joins: at rest, and what was discovered is forgotten.
-pub fn ended(coordinator: Coordinator) -> Coordinator
-    ensures { λ r. ⌜ r ≡ ended coordinator ⌝ }
+// The state after an exchange by which a board joins: at rest, and what was discovered is forgotten.
+pub fn ended(state: State) -> State
+    ensures { λ r. ⌜ r ≡ stateOf (ended (stated state)) ⌝ }
 {
-    let mut c = coordinator;
-    c.stand = stand_of(Phase::Resting);
-    c.found = blank_found();
-    c
+    let mut s = state;
+    s.stand = stand_of(Phase::Resting);
+    s.found = blank_found();
+    s
 }

@@ -91,3 +91,11 @@ first-case d p a (suc n) = go (p a) refl (first-case d p (a + 1) n)
         past : (i : ℕ) → a ≤ i → i < firstOr d p (upFrom (a + 1) n) → Dec (i ≡ a) → p i ≡ false
         past i h l (yes q) = at-start false e i q
         past i h l (no ne) = f .before i (omega arith) l
+
+-- the first of n numbers that passes is the first of fewer, where none past those does
+pub first-of-fewer : (d : ℕ) (p : ℕ → Bool) (a n m : ℕ) → m ≤ n → ((i : ℕ) → a + m ≤ i → i < a + n → p i ≡ false) → firstOr d p (upFrom a n) ≡ firstOr d p (upFrom a m)
+unfolding firstOr upFrom choose
+first-of-fewer d p a zero zero h none = refl
+first-of-fewer d p a zero (suc m) h none = absurd (let z : ⊥ = omega arith in z)
+first-of-fewer d p a (suc n) zero h none = rw (none a (omega arith) (omega arith)) (first-of-fewer d p (a + 1) n 0 (omega arith) (λ i l u. none i (omega arith) (omega arith)))
+first-of-fewer d p a (suc n) (suc m) h none = ap (choose (p a) a) (first-of-fewer d p (a + 1) n m (omega arith) (λ i l u. none i (omega arith) (omega arith)))

@@ -1,33 +1,12 @@
--- The laws of the highest number that passes a test, and what closes each need of a loop that looks for it from above.
-use Prim.Native.Nat.{ℕ, zero, suc, _-_, _≤_, _<_}
+-- The laws of the highest number that passes a test.
+use Prim.Native.Nat.{ℕ, zero, suc, _≤_, _<_}
 use native.Mathlib.Omega.{arith}
 use native.Mathlib.Decide.{ℕ-discrete}
 use mathlib.Core.Path.{_≡_, refl, ap, _∙_}
 use mathlib.Core.Logic.{_⊎_, inl, inr}
 use mathlib.Core.Bool.{Bool, true, false}
-use borrow.Author.Needs.{needs}
 use Rattle.ground.specs.Choose.{choose}
 use Rattle.ground.specs.Below.{highest}
-
-highest-more : (p : ℕ → Bool) (n : ℕ) → 0 < n → highest p n ≡ choose (p n) n (highest p (n - 1))
-unfolding highest
-highest-more p n h = rw (let e : n ≡ suc (n - 1) = omega arith in e) (rw (let e : suc (n - 1) - 1 ≡ n - 1 = omega arith in e) refl)
-
--- the invariant of such a loop: the highest of the whole is the highest of the rest
-pub highest-hit : (p : ℕ → Bool) (x s : ℕ) (r : Bool) → s ≡ highest p x → 0 < x → r ≡ p x → r ≡ true → x ≡ s
-unfolding choose
-highest-hit p x s r h l e t = rw (h, highest-more p x l, ← e, t) refl
-
-pub highest-miss : (p : ℕ → Bool) (x s : ℕ) (r : Bool) → s ≡ highest p x → 0 < x → r ≡ p x → r ≡ false → s ≡ highest p (x - 1)
-unfolding choose
-highest-miss p x s r h l e t = h ∙ rw (highest-more p x l, ← e, t) refl
-
-pub highest-none : (p : ℕ → Bool) (x s : ℕ) → s ≡ highest p x → x ≤ 0 → 0 ≡ s
-unfolding highest
-highest-none p x s h l = rw (h, (let e : x ≡ 0 = omega arith in e)) refl
-
--- what closes each need of such a loop
-pub ruleset highests = (needs, highest-hit, highest-miss, highest-none)
 
 -- x is one of the numbers from 1 to n, passes, and none above it does
 pub record Highest (p : ℕ → Bool) (n x : ℕ) : Type 0 where

@@ -7,5 +7,4 @@ pub mod Highest
 pub mod Picks
 pub mod Fronts
 pub mod Laid
-pub mod Maps
 pub mod Unique

@@ -69,6 +69,20 @@ unfolding all
 all-of p zero h = refl
 all-of p (suc n) h = both (all p n) (p n) (all-of p n (λ i l. h i (omega arith))) (h n (omega arith))
 
+-- numbers that all pass do not change a test of all
+pub all-past : (p : ℕ → Bool) (m n : ℕ) → m ≤ n → ((i : ℕ) → m ≤ i → i < n → p i ≡ true) → all p m ≡ all p n
+unfolding all
+all-past p m zero l h = ap (all p) (let e : m ≡ 0 = omega arith in e)
+all-past p m (suc n) l h = go (λ l′. all-past p m n l′ (λ i a b. h i a (omega arith))) (ℕ-discrete m (suc n))
+  where
+    kept : (b : Bool) → b ≡ (b && true)
+    kept true = refl
+    kept false = refl
+
+    go : (m ≤ n → all p m ≡ all p n) → Dec (m ≡ suc n) → all p m ≡ (all p n && p n)
+    go r (yes e) = ap (all p) e
+    go r (no ne) = r (omega arith) ∙ rw (h n (omega arith) (omega arith)) (kept (all p n))
+
 -- what holds at one number makes a test of some
 pub some-of : (p : ℕ → Bool) (n i : ℕ) → i < n → p i ≡ true → some p n ≡ true
 unfolding some

@@ -1,3 +1,4 @@
+pub mod Seen
 pub mod Verdict
 pub mod Joined
 pub mod Unique

@@ -1,14 +1,32 @@
 -- What a join leaves, by what its rules say.
 use Prim.Native.Nat.{ℕ}
-use mathlib.Core.Path.{_≡_, sym, _∙_}
+use mathlib.Core.Path.{_≡_, refl, sym, ap, _∙_}
+use mathlib.Core.Bool.{true}
 use mathlib.Core.List.{List, [], _∷_}
+use lib.ListN.{drop}
+use borrow.Author.Tests.{not-false}
+use Rattle.ground.proofs.Choices.{choose-no, not-no}
 use Rattle.refusal.specs.Refusal.{ruled, refuses, gives}
 use Rattle.refusal.specs.declared.Refusal.{Refusal}
 use Rattle.refusal.proofs.Rules.{Passed, passed, gave, ruled-through, refused as rule-refused}
 use Rattle.board.specs.declared.Node.{Node}
+use Rattle.board.specs.Node.{isMac}
+use Rattle.board.specs.Table.{put}
+use Rattle.board.specs.Change.{joinedNode, oweAll}
+use Rattle.setup.specs.declared.Judged.{Judged}
+use Rattle.setup.specs.declared.Judged.the-variants.{Refused, Fine}
+use Rattle.setup.specs.Setup.{toldOf}
 use Rattle.coordinator.specs.declared.Coordinator.{Coordinator}
-use Rattle.steps.specs.After.{After, refused, rests}
-use Rattle.steps.specs.Join.{joinRules, joinedAs, joinOf}
+use Rattle.coordinator.specs.Fit.{fits}
+use Rattle.coordinator.specs.Change.{holding}
+use Rattle.steps.specs.declared.Answer.the-variants.{Rest}
+use Rattle.steps.specs.After.{After, shows, leaving, refused, rests}
+use Rattle.steps.specs.Join.{chosen, joinRules, joinedAs, joinOf}
+use Rattle.change.specs.declared.Edit.the-variants.{Joined}
+use Rattle.change.specs.declared.Move.the-variants.{Held}
+use Rattle.change.specs.declared.Change.{Change}
+use Rattle.change.specs.Change.{changing, applied}
+use Rattle.change.proofs.Making.{makes-owed}
 
 module _ (c : Coordinator) (t : List Node) (kind mac session : ℕ) where
   -- a join that no rule refuses
@@ -16,14 +34,22 @@ module _ (c : Coordinator) (t : List Node) (kind mac session : ℕ) where
   unfolding joinOf
   join-passed h = passed (joinRules c t kind mac) (refused c t) (joinedAs c t kind mac session) h
 
-  -- a verdict of the rules that gives nothing passed each of them
-  pub join-taken : gives [] ≡ ruled (joinRules c t kind mac) refuses (gives []) → joinOf c t kind mac session ≡ joinedAs c t kind mac session
-  join-taken e = join-passed (gave (joinRules c t kind mac) [] [] (sym e) .0)
+  -- of fit records: a verdict of the rules past the first that gives nothing passed each of them
+  module _ (fit : fits c t ≡ true) where
+    pub join-taken : {r : Judged} → r ≡ Fine → toldOf r ≡ ruled (drop 1 (joinRules c t kind mac)) refuses (gives []) → Passed (joinRules c t kind mac)
+    join-taken e v = (not-no (fits c t) fit, gave (drop 1 (joinRules c t kind mac)) [] [] (sym v ∙ ap toldOf e) .0)
 
-  -- and one that refuses refuses the join
-  pub join-refused : (q : Refusal) → refuses q ≡ ruled (joinRules c t kind mac) refuses (gives []) → joinOf c t kind mac session ≡ refused c t q
-  unfolding joinOf
-  join-refused q e = rule-refused (joinRules c t kind mac) [] (refused c t) (joinedAs c t kind mac session) q (sym e)
+    -- and one that refuses refuses the join
+    pub join-refused : {r : Judged} (q : Refusal) → r ≡ Refused q → toldOf r ≡ ruled (drop 1 (joinRules c t kind mac)) refuses (gives []) → joinOf c t kind mac session ≡ refused c t q
+    unfolding joinOf
+    join-refused q e v = sym (choose-no _ _ _ _ (not-no (fits c t) fit) refl) ∙ rule-refused (drop 1 (joinRules c t kind mac)) [] (refused c t) (joinedAs c t kind mac session) q (sym v ∙ ap toldOf e)
+
+  -- the change that a join makes where no rule refuses it
+  pub join-made : Passed (joinRules c t kind mac) → (p : List ℕ) {n : ℕ} → (isMac mac ≡ true → n ≡ chosen t (c .setup .k) mac) → {x : Change} → x ≡ changing Held n (Joined kind mac session) true Rest 0 n 0 → applied x p c t ≡ shows (joinOf c t kind mac session)
+  join-made rules p {n} place h =
+      makes-owed p c t n (Joined kind mac session) Rest 0 n 0 h ∙
+      ap (λ (i : ℕ). leaving (holding c true) (oweAll (put t i (joinedNode kind mac session))) rests 0 i 0) (place (not-false (isMac mac) (rules .1 .1 .0))) ∙
+      sym (ap shows (join-passed rules))
 
   -- what a join says is the verdict of the rules
   join-says : joinOf c t kind mac session .says ≡ ruled (joinRules c t kind mac) refuses rests

@@ -1,19 +1,19 @@
 // The step join: a board that has finished the exchange by which boards join is listed, or has its address again.
-use board::Table;
 use board::Wanted;
-use coordinator::Coordinator;
+use change::Change;
+use change::Edit;
+use change::Move;
 use coordinator::Phase;
+use coordinator::State;
+use look::Seen;
 use refusal::Refusal;
 use setup::Judged;
-use steps::Stepped;
 ghost use mathlib.Core.Path.{_≡_};
-ghost use mathlib.Core.List.{[]};
-ghost use lib.ListN.{drop};
-ghost use Rattle.refusal.specs.Refusal.{ruled, refuses, gives};
 ghost use Rattle.board.specs.Node.{isKind};
-ghost use Rattle.setup.specs.Setup.{toldOf};
-ghost use Rattle.steps.specs.After.{shown, shows};
-ghost use Rattle.steps.specs.Join.{isResting, isBusy, known, chosen, joinRules, joinOf};
+ghost use Rattle.look.specs.Seen.{OfColumns};
+ghost use Rattle.steps.specs.Join.{isResting, joinOf};
+ghost use Rattle.change.specs.Decides.{Makes};
+ghost use Rattle.join.specs.Parts.{busyIn, chosenIn, Judges};
 
 // A board's type is neither 0 nor the coordinator's.
 fn is_kind(kind: u8) -> bool
@@ -41,83 +41,70 @@ fn is_resting(phase: Phase) -> bool
     }
 }
 
-// The panel waits, a forward, a return or a list is due, or an exchange by which a board joins runs.
-pub fn is_busy(coordinator: Coordinator, table: Table) -> bool
-    ensures { λ r. ⌜ r ≡ isBusy coordinator (table .nodes) ⌝ }
+// The panel waits, a forward, a return or a list is due, or an exchange by which a board joins runs. A list is due to
+// nobody above the highest listed position.
+pub fn is_busy(state: State, top: usize, marks: &[u8; 40]) -> bool
+    ensures { λ r. ⌜ r ≡ busyIn state top (now (marks .entry)) ⌝ }
 {
-    let setup = coordinator.setup;
-    let phase = coordinator::phase_of(coordinator.stand);
-    !is_resting(phase) | (0 < board::lowest(table, Wanted::Owed, setup.k))
-}
-
-// The position of a listed MAC; 0 for a new one.
-fn known(table: Table, k: usize, mac: u64) -> usize
-    ensures { λ r. ⌜ r ≡ known (table .nodes) k mac ⌝ }
-{
-    board::lowest(table, Wanted::Mac(mac), k)
+    let stand = state.stand;
+    let phase = coordinator::phase_of(stand);
+    !is_resting(phase) | (0 < board::lowest_owed(marks, top))
 }
 
 // The position for a MAC: its own, or the lowest free one; 0 where there is none.
-fn chosen(table: Table, k: usize, mac: u64) -> usize
-    ensures { λ r. ⌜ r ≡ chosen (table .nodes) k mac ⌝ }
+fn chosen(kinds: &[u8; 40], macs: &[u64; 40], k: usize, mac: u64) -> usize
+    ensures { λ r. ⌜ r ≡ chosenIn (now (kinds .entry)) (now (macs .entry)) k mac ⌝ }
 {
-    let position = known(table, k, mac);
+    let position = board::lowest_mac(macs, mac, k);
     if 0 < position {
         position
     } else {
-        board::lowest(table, Wanted::Free, k)
+        board::lowest(kinds, Wanted::Free, k)
     }
 }
 
-// The rules on what the panel is about and on the position for the MAC: 14 to 16. They do not ask for the type, which is 0 here.
-fn judge_moment(coordinator: Coordinator, table: Table, mac: u64) -> Judged
-    ensures { λ r. ⌜ toldOf r ≡ ruled (drop 3 (joinRules coordinator (table .nodes) 0 mac)) refuses (gives []) ⌝ }
+// What a join of fit records is refused for, in the order of the numbers: 12 to 16, with the position for the MAC.
+fn judge(seen: Seen, marks: &[u8; 40], kind: u8, mac: u64, position: usize) -> Judged
+    ensures { λ r. ⌜ Judges seen (now (marks .entry)) kind mac position r ⌝ }
 {
-    if is_busy(coordinator, table) {
-        return Judged::Refused(Refusal::Busy);
-    }
-    if coordinator.held == 1 {
-        return Judged::Refused(Refusal::Held);
-    }
-    let setup = coordinator.setup;
-    if chosen(table, setup.k, mac) == 0 {
-        return Judged::Refused(Refusal::Full);
-    }
-    Judged::Fine
-}
-
-// What a join is refused for, in the order of the numbers: 22, then 12 to 16.
-fn judge_join(coordinator: Coordinator, table: Table, kind: u8, mac: u64) -> Judged
-    ensures { λ r. ⌜ toldOf r ≡ ruled (joinRules coordinator (table .nodes) kind mac) refuses (gives []) ⌝ }
-{
-    if !coordinator::fits(coordinator, table) {
-        return Judged::Refused(Refusal::StateUnfit);
-    }
+    let state = seen.state;
     if !is_kind(kind) {
         return Judged::Refused(Refusal::BadType);
     }
     if !setup::is_mac(mac) {
         return Judged::Refused(Refusal::BadMac);
     }
-    judge_moment(coordinator, table, mac)
+    if is_busy(state, seen.top, marks) {
+        return Judged::Refused(Refusal::Busy);
+    }
+    if state.held == 1 {
+        return Judged::Refused(Refusal::Held);
+    }
+    if position == 0 {
+        return Judged::Refused(Refusal::Full);
+    }
+    Judged::Fine
 }
 
 // A board joins, or joins again, perhaps as another type: its record begins anew. The list is then owed to every listed board, and further joins are held.
-pub fn join(coordinator: Coordinator, table: Table, kind: u8, mac: u64, session: u64) -> Stepped
-    ensures { λ r. ⌜ shown r ≡ shows (joinOf coordinator (table .nodes) kind mac session) ⌝ }
+pub fn join(
+    seen: Seen,
+    kinds: &[u8; 40],
+    marks: &[u8; 40],
+    macs: &[u64; 40],
+    kind: u8,
+    mac: u64,
+    session: u64,
+) -> Change
+    ensures { λ r. ⌜ Makes seen (OfColumns (now (kinds .entry)) (now (marks .entry)) (now (macs .entry))) (λ c t. joinOf c t kind mac session) r ⌝ }
 {
-    let judged = judge_join(coordinator, table, kind, mac);
-    match judged {
-        Judged::Refused(refusal) => steps::refusing(coordinator, table, refusal),
+    let setup = seen.setup;
+    let position = chosen(kinds, macs, setup.k, mac);
+    match judge(seen, marks, kind, mac, position) {
+        Judged::Refused(refusal) => change::refusing(refusal),
         Judged::Fine => {
-            let setup = coordinator.setup;
-            let position = chosen(table, setup.k, mac);
-            steps::resting(
-                coordinator::holding(coordinator, true),
-                board::owe_all(board::list_at(table, position, kind, mac, session)),
-                position,
-                0,
-            )
+            let edit = Edit::Joined(kind, mac, session);
+            change::resting(Move::Held, position, edit, true, position, 0)
         }
     }
 }

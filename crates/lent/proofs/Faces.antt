@@ -1,4 +1,4 @@
--- What C is told: the packed answer's eight bytes are its parts, what stands where it was lent is what the step inPlace, and a number that names no event changes nothing.
+-- What C is told: the packed answer's eight bytes are its parts, what stands where it was lent is what the step leaves, and a number that names no event changes nothing.
 use Prim.Native.Nat.{ℕ, zero, suc, _<_, _/_, _%_}
 use native.Mathlib.Nat.{mod-lt, mod-eq-of-lt}
 use native.Mathlib.Omega.{arith}

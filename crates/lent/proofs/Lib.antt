@@ -1,5 +1,4 @@
 pub mod InPlace
-pub mod Counted
 pub mod Faces
 pub mod Sizes
 pub mod Unique

@@ -1,5 +1,5 @@
 -- Single records that a host amends by itself: listed, cleared, marked (01, "thin faces .. that list, clear and mark single records").
-use Prim.Native.Nat.{ℕ}
+use Prim.Native.Nat.{ℕ, _-_}
 use mathlib.Core.List.{List}
 use lib.Dec.{eqb}
 use Rattle.ground.specs.Choose.{choose}
@@ -10,6 +10,8 @@ use Rattle.board.specs.Node.{none}
 use Rattle.board.specs.Table.{at, put}
 use Rattle.board.specs.Change.{joinedNode, owe}
 use Rattle.steps.specs.After.{rests}
+use Rattle.change.specs.declared.Edit.{Edit}
+use Rattle.lent.specs.declared.Amendment.{Amendment}
 use Rattle.lent.specs.Numbers.{packed}
 
 -- a new board listed at a position; a position that names nobody changes nothing, here and below
@@ -35,3 +37,10 @@ amends n ys = record { answer = n; nodes = ys }
 -- a change of one of n records: 22 unless they are forty, else it rests
 abbrev pub amendOf : ℕ → List Node → List Node → Amends
 amendOf n t changed = choose (eqb n 40) (amends (packed rests 0 0 0) changed) (amends (packed (refuses StateUnfit) 0 0 0) t)
+
+-- which of n records that is, and what is done to it: the one at the index before the position, none at position 0, and none unless they are forty
+abbrev pub amending : ℕ → ℕ → Edit → Amendment
+amending n position e =
+    choose (eqb n 40)
+    (record { from = position - 1; to = position; edit = e; answer = packed rests 0 0 0 })
+    (record { from = 0; to = 0; edit = e; answer = packed (refuses StateUnfit) 0 0 0 })

@@ -1,122 +1,79 @@
-// The covered part of the lent forms: what is done with a table that was taken from lent records, told how many there were, and the numbers that
+// The covered part of the lent forms besides the steps: which single records a host amends by itself, told how many there are, and the numbers that
 // stand at the C face.
-use board::Table;
-use coordinator::Coordinator;
+use change::Edit;
 use coordinator::Exchange;
 use refusal::Refusal;
 use steps::Answer;
 use steps::Event;
 use steps::Outcome;
 use steps::Seek;
-use steps::Stepped;
 ghost use mathlib.Core.Path.{_≡_};
-ghost use lib.ListN.{length};
-ghost use Rattle.ground.specs.Bytes.{laid};
-ghost use Rattle.steps.specs.After.{shown, shows, told, exchangeNumber, seekNumber};
-ghost use Rattle.lent.specs.Lent.{countedStep, countedSetup};
-ghost use Rattle.refusal.specs.Refusal.{refuses};
+ghost use Prim.Native.Nat.{_-_};
+ghost use Rattle.steps.specs.After.{told, exchangeNumber, seekNumber};
+ghost use Rattle.change.specs.declared.Edit.the-variants.{Owed, Cleared, Joined};
 ghost use Rattle.lent.specs.Numbers.{eventOf, saying, packed};
-ghost use Rattle.lent.specs.Amend.{amends, listing, clearing, marking, amendOf};
+ghost use Rattle.lent.specs.Amend.{amending};
 
 // As many records as a table has.
 const RECORDS: usize = 40;
 
-// A table that was amended, and the packed answer.
-pub struct Amended {
-    pub table: Table,
+// Which records a host amends by itself, from an index up to another, what is done to each, and the packed answer.
+pub struct Amendment {
+    pub from: usize,
+    pub to: usize,
+    pub edit: Edit,
     pub answer: u64,
 }
 
-// A step on the table taken from `count` records.
-pub fn counted_step(
-    coordinator: Coordinator,
-    table: Table,
-    count: usize,
-    event: Event,
-    received: &[u8],
-    out: &mut [u8],
-) -> Stepped
-    ensures { λ r. ⌜ (shown r ≡ shows (countedStep coordinator (table .nodes) count event (now (received .entry)) (length (now (out .entry))))) × (now (out .exit) ≡ laid (countedStep coordinator (table .nodes) count event (now (received .entry)) (length (now (out .entry))) .bytes) (now (out .entry))) ⌝ }
+// The index of a position, and 0 for position 0, which names nobody.
+fn index_at(position: usize) -> usize
+    ensures { λ r. ⌜ r ≡ position - 1 ⌝ }
 {
-    if count != RECORDS {
-        return steps::refusing(coordinator, table, Refusal::StateUnfit);
+    if 0 < position {
+        return position - 1;
     }
-    stepping::step(coordinator, table, event, received, out)
+    0
 }
 
-// Setup on the table taken from `count` records.
-pub fn counted_setup(
-    coordinator: Coordinator,
-    table: Table,
-    count: usize,
-    addresses: &[u8],
-    subnet: u8,
-    internal: u8,
-    mac: u64,
-    session: u64,
-) -> Stepped
-    ensures { λ r. ⌜ shown r ≡ shows (countedSetup coordinator (table .nodes) count (now (addresses .entry)) subnet internal mac session) ⌝ }
+// The record at a position of `count` records edited: none of them where they are not forty, or where the position names nobody.
+fn amending(count: usize, position: usize, edit: Edit) -> Amendment
+    ensures { λ r. ⌜ r ≡ amending count position edit ⌝ }
 {
     if count != RECORDS {
-        return steps::refusing(coordinator, table, Refusal::StateUnfit);
-    }
-    start::start(
-        coordinator,
-        table,
-        addresses,
-        subnet,
-        internal,
-        mac,
-        session,
-    )
-}
-
-// What comes of a change of one record in the table taken from `count` records: the table changed, or as it was.
-fn amending(table: Table, count: usize, changed: Table) -> Amended
-    ensures { λ r. ⌜ amends (r .answer) (r .table .nodes) ≡ amendOf count (table .nodes) (changed .nodes) ⌝ }
-{
-    if count != RECORDS {
-        return Amended {
-            table: table,
+        return Amendment {
+            from: 0,
+            to: 0,
+            edit: edit,
             answer: plainly(Answer::Refuse(Refusal::StateUnfit)),
         };
     }
-    Amended {
-        table: changed,
+    Amendment {
+        from: index_at(position),
+        to: position,
+        edit: edit,
         answer: plainly(Answer::Rest),
     }
 }
 
-// A board listed in the table taken from `count` records.
-pub fn counted_list(
-    table: Table,
-    count: usize,
-    position: usize,
-    kind: u8,
-    mac: u64,
-    session: u64,
-) -> Amended
-    ensures { λ r. ⌜ amends (r .answer) (r .table .nodes) ≡ amendOf count (table .nodes) (listing (table .nodes) position kind mac session) ⌝ }
+// A board listed at a position of `count` records.
+pub fn list_edit(count: usize, position: usize, kind: u8, mac: u64, session: u64) -> Amendment
+    ensures { λ r. ⌜ r ≡ amending count position (Joined kind mac session) ⌝ }
 {
-    amending(
-        table,
-        count,
-        board::list_at(table, position, kind, mac, session),
-    )
+    amending(count, position, Edit::Joined(kind, mac, session))
 }
 
-// A position cleared in it.
-pub fn counted_clear(table: Table, count: usize, position: usize) -> Amended
-    ensures { λ r. ⌜ amends (r .answer) (r .table .nodes) ≡ amendOf count (table .nodes) (clearing (table .nodes) position) ⌝ }
+// A position of them cleared.
+pub fn clear_edit(count: usize, position: usize) -> Amendment
+    ensures { λ r. ⌜ r ≡ amending count position Cleared ⌝ }
 {
-    amending(table, count, board::clear_at(table, position))
+    amending(count, position, Edit::Cleared)
 }
 
-// The list marked as owed to the board at a position in it.
-pub fn counted_mark(table: Table, count: usize, position: usize) -> Amended
-    ensures { λ r. ⌜ amends (r .answer) (r .table .nodes) ≡ amendOf count (table .nodes) (marking (table .nodes) position) ⌝ }
+// The list marked as owed to the board at a position of them.
+pub fn mark_edit(count: usize, position: usize) -> Amendment
+    ensures { λ r. ⌜ r ≡ amending count position Owed ⌝ }
 {
-    amending(table, count, board::mark_at(table, position))
+    amending(count, position, Edit::Owed)
 }
 
 // The event that C names by its number.

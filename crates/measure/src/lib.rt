@@ -1,6 +1,4 @@
 // What the benchmark calls: the proved functions for C, each with its answer as plain numbers.
-use board::Table;
-use coordinator::Coordinator;
 use finder::Finding;
 use frame::Header;
 use frame::Reading;
@@ -11,8 +9,6 @@ ghost use Rattle.ground.specs.Bytes.{laid};
 ghost use Rattle.fletcher.specs.Fletcher.{isGood};
 ghost use Rattle.frame.specs.Frame.{reading, writing, writtenBytes};
 ghost use Rattle.finder.specs.Finder.{finding};
-ghost use Rattle.steps.specs.Step.{stepOf};
-ghost use Rattle.lent.specs.Numbers.{eventOf, facing, faced};
 ghost use Rattle.measure.specs.Numbers.{readNumbers, writeNumbers, findNumbers};
 
 // A reading: the refusal's number or 0, and the header and the payload's length, all 0 on a refusal.
@@ -37,14 +33,6 @@ pub struct FindNumbers {
     pub start: usize,
     pub length: usize,
     pub tried: usize,
-}
-
-// A step: what it leaves, and its answer as the panel's face for C packs it.
-#[repr(C)]
-pub struct StepNumbers {
-    pub coordinator: Coordinator,
-    pub table: Table,
-    pub answer: u64,
 }
 
 // Whether bytes are good.
@@ -134,31 +122,5 @@ pub extern "C" fn measure_find(bytes: &[u8], budget: usize) -> FindNumbers
             length: 0,
             tried: tried,
         },
-    }
-}
-
-// One step by value. The panel's face does the same on records where they stand.
-#[no_mangle]
-pub extern "C" fn measure_step(
-    coordinator: Coordinator,
-    table: Table,
-    event: u8,
-    kind: u8,
-    mac: u64,
-    session: u64,
-    received: &[u8],
-    out: &mut [u8],
-) -> StepNumbers
-    ensures { λ r. ⌜ (facing (r .answer) (r .coordinator) (r .table .nodes) ≡ faced (stepOf coordinator (table .nodes) (eventOf event kind mac session) (now (received .entry)) (length (now (out .entry))))) × (now (out .exit) ≡ laid (stepOf coordinator (table .nodes) (eventOf event kind mac session) (now (received .entry)) (length (now (out .entry))) .bytes) (now (out .entry))) ⌝ }
-{
-    let happened = lent::event_of(event, kind, mac, session);
-    let stepped = stepping::step(coordinator, table, happened, received, out);
-    let after = stepped.coordinator;
-    let nodes = stepped.table;
-    let outcome = stepped.outcome;
-    StepNumbers {
-        coordinator: after,
-        table: nodes,
-        answer: lent::pack(outcome),
     }
 }

@@ -20,11 +20,17 @@ use Rattle.word.specs.Words.{bytesOf, wordAt}
 use Rattle.word.proofs.Words.{length-bytes, read-back}
 use Rattle.board.specs.declared.Node.{Node}
 use Rattle.board.specs.Wanted.{indexOf}
+use Rattle.board.proofs.SameKinds.{SameKinds, kinds-index}
 use Rattle.setup.specs.declared.Setup.{Setup}
 use Rattle.setup.specs.Setup.{address}
 use Rattle.nodelist.specs.List.{nodeList}
 use Rattle.nodelist.proofs.Theorems.{at-most}
 use Rattle.message.specs.Message.{toBoard, ownHeader, signed, listHeader, signedFrame, listFrame, ackCode, broadcastHeader, discoveryHeader, everyKind, identifyHeader, assignHeader, assignment}
+
+-- a header of our own needs the types alone
+pub kinds-header : {t u : List Node} → SameKinds t u → (s : Setup) (board message packet : ℕ) → ownHeader s t board message packet ≡ ownHeader s u board message packet
+unfolding ownHeader
+kinds-header same s board message packet = rw (kinds-index same board) refl
 
 -- a header of our own is one sent to the board
 pub own-to-board : (s : Setup) (t : List Node) (board message packet : ℕ) → ownHeader s t board message packet ≡ toBoard s board (ownHeader s t board message packet)

@@ -1,12 +1,12 @@
 // The frames that the panel itself writes: the offer and the ACK, the node list, what it carries from board to board, and
 // those of the exchange by which a board joins.
-use board::Table;
 use frame::Header;
 use frame::Writing;
 use setup::Setup;
 ghost use mathlib.Core.Path.{_≡_};
 ghost use mathlib.Core.List.{[]};
-ghost use Rattle.nodelist.specs.List.{nodeList};
+ghost use Rattle.board.specs.Columns.{typed};
+ghost use Rattle.nodelist.specs.List.{listTo};
 ghost use Rattle.message.specs.Message.{toBoard, ownHeader, signed, signedHeader, listHeader, broadcastHeader, discoveryHeader, everyKind, identifyHeader, assignHeader, assignment, Sends};
 
 // A header sent to a board: to its address, from us, in our subnet.
@@ -36,16 +36,16 @@ pub fn write_to(
 // Writes a message of our own to a board. The header's first three fields are `write_to`'s to say.
 fn write_own(
     setup: Setup,
-    table: Table,
+    kinds: &[u8; 40],
     board: usize,
     message: u8,
     packet: u8,
     payload: &[u8],
     out: &mut [u8],
 ) -> Writing
-    ensures { λ r. ⌜ Sends (ownHeader setup (table .nodes) board message packet) (now (payload .entry)) r (now (out .entry)) (now (out .exit)) ⌝ }
+    ensures { λ r. ⌜ Sends (ownHeader setup (typed (now (kinds .entry))) board message packet) (now (payload .entry)) r (now (out .entry)) (now (out .exit)) ⌝ }
 {
-    let index = board::index_of(table, board);
+    let index = board::index_of(kinds, board);
     let header = Header {
         destination: 0,
         source: 0,
@@ -88,21 +88,34 @@ fn signed_bytes(setup: Setup, code: u8) -> [u8; 17]
 }
 
 // Writes the offer to a board with code 0, the ACK with code 6.
-pub fn write_signed(setup: Setup, table: Table, board: usize, code: u8, out: &mut [u8]) -> Writing
-    ensures { λ r. ⌜ Sends (signedHeader setup (table .nodes) board) (signed setup code) r (now (out .entry)) (now (out .exit)) ⌝ }
+pub fn write_signed(
+    setup: Setup,
+    kinds: &[u8; 40],
+    board: usize,
+    code: u8,
+    out: &mut [u8],
+) -> Writing
+    ensures { λ r. ⌜ Sends (signedHeader setup (typed (now (kinds .entry))) board) (signed setup code) r (now (out .entry)) (now (out .exit)) ⌝ }
 {
     let payload = signed_bytes(setup, code);
-    write_own(setup, table, board, 0, 0x80, &payload, out)
+    write_own(setup, kinds, board, 0, 0x80, &payload, out)
 }
 
-// Writes the node list to a board. A list has at most 41 bytes, so that the buffer always holds it.
-pub fn write_list(setup: Setup, table: Table, board: usize, out: &mut [u8]) -> Writing
-    ensures { λ r. ⌜ Sends (listHeader setup (table .nodes) board) (nodeList (setup .internal) (table .nodes)) r (now (out .entry)) (now (out .exit)) ⌝ }
+// Writes the node list to a board, up to the highest listed position. It has at most 41 bytes, so that the buffer
+// always holds it.
+pub fn write_list(
+    setup: Setup,
+    kinds: &[u8; 40],
+    top: usize,
+    board: usize,
+    out: &mut [u8],
+) -> Writing
+    ensures { λ r. ⌜ Sends (listHeader setup (typed (now (kinds .entry))) board) (listTo top (setup .internal) (typed (now (kinds .entry)))) r (now (out .entry)) (now (out .exit)) ⌝ }
 {
     let mut payload = [0u8; 41];
-    nodelist::write_list(setup.internal, table, &mut payload);
-    let n = nodelist::list_length(table);
-    write_own(setup, table, board, 0x14, 0, &payload[..n], out)
+    nodelist::write_list(setup.internal, kinds, top, &mut payload);
+    let n = nodelist::list_length(top);
+    write_own(setup, kinds, board, 0x14, 0, &payload[..n], out)
 }
 
 // Writes a broadcast of the exchange by which a board joins.
@@ -132,11 +145,11 @@ pub fn write_discovery(out: &mut [u8]) -> Writing
 }
 
 // Writes Get Node ID to the address of a position.
-pub fn write_identify(setup: Setup, table: Table, position: usize, out: &mut [u8]) -> Writing
-    ensures { λ r. ⌜ Sends (identifyHeader setup (table .nodes) position) [] r (now (out .entry)) (now (out .exit)) ⌝ }
+pub fn write_identify(setup: Setup, kinds: &[u8; 40], position: usize, out: &mut [u8]) -> Writing
+    ensures { λ r. ⌜ Sends (identifyHeader setup (typed (now (kinds .entry))) position) [] r (now (out .entry)) (now (out .exit)) ⌝ }
 {
     let payload = [0u8; 1];
-    write_own(setup, table, position, 0x7B, 0, &payload[..0], out)
+    write_own(setup, kinds, position, 0x7B, 0, &payload[..0], out)
 }
 
 // The address of a position, our subnet, then the MAC and the session of whom it is for, and 1.

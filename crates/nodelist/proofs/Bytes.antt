@@ -1,10 +1,9 @@
 -- The laws of the node list: how long it is, and what stands at each byte.
-use Prim.Native.Nat.{ℕ, zero, suc, _+_, _-_, _≤_, _<_}
+use Prim.Native.Nat.{ℕ, zero, suc, _+_, _-_, _≤_, _<_, min}
 use native.Mathlib.Omega.{arith}
 use native.Mathlib.Numerals.{add-one}
 use mathlib.Core.Path.{_≡_, refl, ap, _∙_, sym}
-use mathlib.Core.Logic.{inl, inr}
-use mathlib.Core.List.{List, [], _∷_, _++_}
+use mathlib.Core.List.{List, [], _∷_, _++_, map}
 use mathlib.Core.Bool.{Bool, true, false, _&&_}
 use lib.ListN.{length, length-map, getD, set, take, drop, List·getD-map}
 use lib.Dec.{eqb, ltb}
@@ -13,89 +12,95 @@ use Rattle.ground.specs.Below.{all, upFrom}
 use Rattle.ground.specs.Bytes.{laid}
 use Rattle.ground.proofs.Choices.{choose-yes, choose-no, and-yes, and-no}
 use Rattle.ground.proofs.Loops.{all-step, all-end}
-use Rattle.ground.proofs.Highest.{HighestCase}
 use Rattle.ground.proofs.Runs.{run-length, run-at}
 use Rattle.ground.proofs.Fronts.{front-step, front-end}
 use Rattle.board.specs.declared.Node.{Node}
-use Rattle.board.specs.Node.{none}
-use Rattle.board.specs.Table.{at, listedAt}
-use Rattle.board.proofs.Positions.{at-position}
-use Rattle.board.proofs.LowestWanted.{highest-listed-case}
+use Rattle.board.specs.Table.{at}
+use Rattle.board.specs.Columns.{typed}
+use Rattle.board.proofs.Columns.{typed-position}
+use Rattle.board.proofs.LowestWanted.{highest-within}
 use Rattle.board.specs.Wanted.{highestListed}
 use Rattle.refusal.specs.Refusal.{refuses, gives}
 use Rattle.refusal.specs.declared.Refusal.the-variants.{NoRoom}
-use Rattle.nodelist.specs.List.{kindAt, nodeList, listLength, written, output, sameByte, sameList}
+use Rattle.nodelist.specs.List.{kindAt, nodeList, listLength, listTo, lengthTo, writtenTo, outputTo, sameByteTo, sameTo}
 
--- the highest listed position is one of the table's
-pub highest-within : (t : List Node) → highestListed t ≤ 40
-highest-within t = go (highest-listed-case t)
-  where
-    go : HighestCase (listedAt t) 40 (highestListed t) → highestListed t ≤ 40
-    go (inl (none, e)) = omega arith
-    go (inr f) = f .within
-
--- the list is one byte longer than the highest listed position
-pub list-size : (internal : ℕ) (t : List Node) → length (nodeList internal t) ≡ listLength t
-unfolding nodeList
-list-size internal t = rw add-one (ap suc (length-map (upFrom 1 (highestListed t)) (kindAt t) ∙ run-length 1 (highestListed t)))
+-- the list up to a position has one byte more
+pub size-to : (top internal : ℕ) (t : List Node) → length (listTo top internal t) ≡ lengthTo top
+unfolding listTo
+size-to top internal t = rw add-one (ap suc (length-map (upFrom 1 (min top 40)) (kindAt t) ∙ run-length 1 (min top 40)))
 
 -- byte i is the type at position i
+pub byte-to : (top internal : ℕ) (t : List Node) (i : ℕ) → 0 < i → i < lengthTo top → getD (listTo top internal t) i 0 ≡ kindAt t i
+unfolding listTo at
+byte-to top internal t zero l h = absurd (let z : ⊥ = omega arith in z)
+byte-to top internal t (suc i) l h =
+    List·getD-map (kindAt t) (upFrom 1 (min top 40)) i 0 ∙ ap (kindAt t) (run-at 1 (min top 40) i 0 (omega arith) ∙ (let e : 1 + i ≡ suc i = omega arith in e))
+
+-- the same, as the code reads it from the column of types
+pub byte-read : (top internal : ℕ) (kinds : List ℕ) (i : ℕ) → 0 < i → i < lengthTo top → getD kinds (i - 1) 0 ≡ getD (listTo top internal (typed kinds)) i 0
+byte-read top internal kinds i l h = sym (byte-to top internal (typed kinds) i l h ∙ ap (λ (n : Node). n .kind) (typed-position kinds i l (omega arith)))
+
+-- the list up to the highest listed position is the node list
+pub length-to-top : (t : List Node) → lengthTo (highestListed t) ≡ listLength t
+length-to-top t = omega (arith, highest-within t)
+
+pub list-to-top : (internal : ℕ) (t : List Node) → listTo (highestListed t) internal t ≡ nodeList internal t
+unfolding nodeList listTo
+list-to-top internal t = ap (λ (n : ℕ). internal ∷ map (kindAt t) (upFrom 1 n)) (let e : min (highestListed t) 40 ≡ highestListed t = omega (arith, highest-within t) in e)
+
+-- so it is one byte longer than that position, and byte i is the type at position i
+pub list-size : (internal : ℕ) (t : List Node) → length (nodeList internal t) ≡ listLength t
+list-size internal t = rw (← list-to-top internal t, ← length-to-top t) (size-to (highestListed t) internal t)
+
 pub list-byte : (internal : ℕ) (t : List Node) (i : ℕ) → 0 < i → i < listLength t → getD (nodeList internal t) i 0 ≡ kindAt t i
-unfolding nodeList at
-list-byte internal t zero l h = absurd (let z : ⊥ = omega arith in z)
-list-byte internal t (suc i) l h =
-    List·getD-map (kindAt t) (upFrom 1 (highestListed t)) i 0 ∙ ap (kindAt t) (run-at 1 (highestListed t) i 0 (omega arith) ∙ (let e : 1 + i ≡ suc i = omega arith in e))
+list-byte internal t i l h = rw (← list-to-top internal t) (byte-to (highestListed t) internal t i l (omega (arith, highest-within t)))
 
--- the same, as the code reads it
-pub byte-read : (internal : ℕ) (t : List Node) (i : ℕ) → 0 < i → i < listLength t → (getD t (i - 1) none) .kind ≡ getD (nodeList internal t) i 0
-byte-read internal t i l h = sym (list-byte internal t i l h ∙ ap (λ (n : Node). n .kind) (at-position t i l))
+-- a loop that writes the list: byte 0 first, then each byte from the type of its position
+pub list-begun : (top internal : ℕ) (t : List Node) (o : List ℕ) {n : ℕ} → n ≡ lengthTo top → n ≤ length o → set o 0 internal ≡ take 1 (listTo top internal t) ++ drop 1 (set o 0 internal)
+unfolding listTo
+list-begun top internal t [] e h = absurd (let z : ⊥ = omega arith in z)
+list-begun top internal t (x ∷ o) e h = refl
 
--- a loop that writes the list: byte 0 first, then each byte from the record below its position
-pub list-begun : (internal : ℕ) (t : List Node) (o : List ℕ) {n : ℕ} → n ≡ listLength t → n ≤ length o → set o 0 internal ≡ take 1 (nodeList internal t) ++ drop 1 (set o 0 internal)
-unfolding nodeList
-list-begun internal t [] e h = absurd (let z : ⊥ = omega arith in z)
-list-begun internal t (x ∷ o) e h = refl
-
-pub list-step : (internal : ℕ) (t : List Node) (o u : List ℕ) (i : ℕ) {n : ℕ} → u ≡ take i (nodeList internal t) ++ drop i o → 1 ≤ i → n ≡ listLength t → i < n → n ≤ length o → set u i ((getD t (i - 1) none) .kind) ≡ take (i + 1) (nodeList internal t) ++ drop (i + 1) o
-list-step internal t o u i e l q h k =
-    rw (byte-read internal t i (omega arith) (omega arith)) (front-step (nodeList internal t) o u i e (rw (list-size internal t) (omega arith)) (rw (list-size internal t) (omega arith)))
+pub list-step : (top internal : ℕ) (kinds o u : List ℕ) (i : ℕ) {n : ℕ} → u ≡ take i (listTo top internal (typed kinds)) ++ drop i o → 1 ≤ i → n ≡ lengthTo top → i < n → n ≤ length o → set u i (getD kinds (i - 1) 0) ≡ take (i + 1) (listTo top internal (typed kinds)) ++ drop (i + 1) o
+list-step top internal kinds o u i e l q h k =
+    rw (byte-read top internal kinds i (omega arith) (omega arith)) (front-step (listTo top internal (typed kinds)) o u i e (rw (size-to top internal (typed kinds)) (omega arith)) (rw (size-to top internal (typed kinds)) (omega arith)))
 
 past-first : (internal : ℕ) (o : List ℕ) (n : ℕ) → 0 < n → drop n (set o 0 internal) ≡ drop n o
 past-first internal o zero h = absurd (let z : ⊥ = omega arith in z)
 past-first internal [] (suc n) h = refl
 past-first internal (x ∷ o) (suc n) h = refl
 
-pub list-end : (internal : ℕ) (t : List Node) (o u : List ℕ) (i : ℕ) {n : ℕ} → u ≡ take i (nodeList internal t) ++ drop i (set o 0 internal) → n ≡ listLength t → i ≤ n → n ≤ i → u ≡ laid (nodeList internal t) o
-list-end internal t o u i e q h k =
-    front-end (nodeList internal t) (set o 0 internal) u i e (rw (list-size internal t) (omega arith)) (rw (list-size internal t) (omega arith)) ∙ ap (λ (l : List ℕ). nodeList internal t ++ l) (past-first internal o (length (nodeList internal t)) (rw (list-size internal t) (omega arith)))
+pub list-end : (top internal : ℕ) (t : List Node) (o u : List ℕ) (i : ℕ) {n : ℕ} → u ≡ take i (listTo top internal t) ++ drop i (set o 0 internal) → n ≡ lengthTo top → i ≤ n → n ≤ i → u ≡ laid (listTo top internal t) o
+list-end top internal t o u i e q h k =
+    front-end (listTo top internal t) (set o 0 internal) u i e (rw (size-to top internal t) (omega arith)) (rw (size-to top internal t) (omega arith)) ∙ ap (λ (l : List ℕ). listTo top internal t ++ l) (past-first internal o (length (listTo top internal t)) (rw (size-to top internal t) (omega arith)))
 
 -- what the writer answers and leaves: where the list does not fit, and where it is laid
-pub refused : (internal : ℕ) (t : List Node) (o : List ℕ) {n : ℕ} → n ≡ listLength t → length o < n → (refuses NoRoom ≡ written t o) × (o ≡ output internal t o)
-refused internal t o e h = (choose-yes _ _ _ _ short refl, choose-yes _ _ _ _ short refl)
+pub refused : (top internal : ℕ) (t : List Node) (o : List ℕ) {n : ℕ} → n ≡ lengthTo top → length o < n → (refuses NoRoom ≡ writtenTo top o) × (o ≡ outputTo top internal t o)
+refused top internal t o e h = (choose-yes _ _ _ _ short refl, choose-yes _ _ _ _ short refl)
   where
-    short : ltb (length o) (listLength t) ≡ true
-    short = lt-ltb (length o) (listLength t) (omega arith)
+    short : ltb (length o) (lengthTo top) ≡ true
+    short = lt-ltb (length o) (lengthTo top) (omega arith)
 
-pub accepted : (internal : ℕ) (t : List Node) (o u : List ℕ) {n : ℕ} → n ≡ listLength t → n ≤ length o → u ≡ laid (nodeList internal t) o → (gives (n ∷ []) ≡ written t o) × (u ≡ output internal t o)
-accepted internal t o u e h w = (choose-no _ _ _ _ roomy (ap (λ (n : ℕ). gives (n ∷ [])) e), choose-no _ _ _ _ roomy w)
+pub accepted : (top internal : ℕ) (t : List Node) (o u : List ℕ) {n : ℕ} → n ≡ lengthTo top → n ≤ length o → u ≡ laid (listTo top internal t) o → (gives (n ∷ []) ≡ writtenTo top o) × (u ≡ outputTo top internal t o)
+accepted top internal t o u e h w = (choose-no _ _ _ _ roomy (ap (λ (n : ℕ). gives (n ∷ [])) e), choose-no _ _ _ _ roomy w)
   where
-    roomy : ltb (length o) (listLength t) ≡ false
-    roomy = le-ltb (length o) (listLength t) (omega arith)
+    roomy : ltb (length o) (lengthTo top) ≡ false
+    roomy = le-ltb (length o) (lengthTo top) (omega arith)
 
 -- a loop that compares the list with bytes received
-pub other-length : (internal : ℕ) (t : List Node) (bytes : List ℕ) {n : ℕ} → n ≡ listLength t → (length bytes ≡ n → ⊥) → false ≡ sameList internal t bytes
-unfolding sameList
-other-length internal t bytes e h = and-no _ _ (ne-eqb (length bytes) (listLength t) (λ q. h (q ∙ sym e)))
+pub other-length : (top internal : ℕ) (t : List Node) (bytes : List ℕ) {n : ℕ} → n ≡ lengthTo top → (length bytes ≡ n → ⊥) → false ≡ sameTo top internal t bytes
+unfolding sameTo
+other-length top internal t bytes e h = and-no _ _ (ne-eqb (length bytes) (lengthTo top) (λ q. h (q ∙ sym e)))
 
-pub same-begun : (internal : ℕ) (t : List Node) (bytes : List ℕ) → eqb (getD bytes 0 0) internal ≡ all (sameByte internal t bytes) 1
-unfolding all nodeList sameByte
-same-begun internal t bytes = refl
+pub same-begun : (top internal : ℕ) (t : List Node) (bytes : List ℕ) → eqb (getD bytes 0 0) internal ≡ all (sameByteTo top internal t bytes) 1
+unfolding all listTo sameByteTo
+same-begun top internal t bytes = refl
 
-pub same-step : (internal : ℕ) (t : List Node) (bytes : List ℕ) (i : ℕ) {n : ℕ} {b : Bool} → b ≡ all (sameByte internal t bytes) i → 1 ≤ i → n ≡ listLength t → i < n → (b && eqb (getD bytes i 0) ((getD t (i - 1) none) .kind)) ≡ all (sameByte internal t bytes) (i + 1)
-unfolding sameByte
-same-step internal t bytes i e l q h = all-step (sameByte internal t bytes) i e (ap (eqb (getD bytes i 0)) (byte-read internal t i (omega arith) (omega arith)))
+pub same-step : (top internal : ℕ) (kinds bytes : List ℕ) (i : ℕ) {n : ℕ} {b : Bool} → b ≡ all (sameByteTo top internal (typed kinds) bytes) i → 1 ≤ i → n ≡ lengthTo top → i < n → (b && eqb (getD bytes i 0) (getD kinds (i - 1) 0)) ≡ all (sameByteTo top internal (typed kinds) bytes) (i + 1)
+unfolding sameByteTo
+same-step top internal kinds bytes i e l q h = all-step (sameByteTo top internal (typed kinds) bytes) i e (ap (eqb (getD bytes i 0)) (byte-read top internal kinds i (omega arith) (omega arith)))
 
-pub same-end : (internal : ℕ) (t : List Node) (bytes : List ℕ) (i : ℕ) {n : ℕ} {b : Bool} → b ≡ all (sameByte internal t bytes) i → n ≡ listLength t → n ≡ length bytes → i ≤ n → n ≤ i → b ≡ sameList internal t bytes
-unfolding sameList
-same-end internal t bytes i e q r h k =
-    and-yes _ _ _ (eq-eqb (length bytes) (listLength t) (sym r ∙ q)) (all-end (sameByte internal t bytes) i (listLength t) e (omega arith) (omega arith))
+pub same-end : (top internal : ℕ) (t : List Node) (bytes : List ℕ) (i : ℕ) {n : ℕ} {b : Bool} → b ≡ all (sameByteTo top internal t bytes) i → n ≡ lengthTo top → n ≡ length bytes → i ≤ n → n ≤ i → b ≡ sameTo top internal t bytes
+unfolding sameTo
+same-end top internal t bytes i e q r h k =
+    and-yes _ _ _ (eq-eqb (length bytes) (lengthTo top) (sym r ∙ q)) (all-end (sameByteTo top internal t bytes) i (lengthTo top) e (omega arith) (omega arith))

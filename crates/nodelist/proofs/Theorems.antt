@@ -1,11 +1,11 @@
 -- What a reader may rely on: each byte of the list, its length, and that comparing decides equality.
-use Prim.Native.Nat.{ℕ, _-_, _≤_, _<_}
+use Prim.Native.Nat.{ℕ, _-_, _≤_, _<_, min}
 use native.Mathlib.Omega.{arith}
 use native.Mathlib.Decide.{decLt}
 use mathlib.Core.Path.{_≡_, refl, ap, _∙_, sym}
 use mathlib.Core.Logic.{inl, inr}
 use mathlib.Core.List.{List, _∷_, map}
-use mathlib.Core.Bool.{Bool, true, false, not, false≢true}
+use mathlib.Core.Bool.{Bool, true, false, not, _&&_, false≢true}
 use lib.ListN.{length, getD, List·getD-eq-default}
 use lib.Seq.{ext-getD}
 use lib.Dec.{eqb}
@@ -19,8 +19,9 @@ use Rattle.board.specs.Table.{listedAt}
 use Rattle.board.proofs.LowestWanted.{highest-listed-case}
 use Rattle.board.proofs.SameKinds.{SameKinds, kinds-highest}
 use Rattle.board.specs.Wanted.{highestListed}
-use Rattle.nodelist.specs.List.{kindAt, nodeList, listLength, sameByte, sameList}
-use Rattle.nodelist.proofs.Bytes.{highest-within, list-size, list-byte}
+use Rattle.nodelist.specs.List.{kindAt, nodeList, listLength, sameByte, sameList, written, output, listTo, writtenTo, outputTo, sameByteTo, sameTo}
+use Rattle.board.proofs.LowestWanted.{highest-within}
+use Rattle.nodelist.proofs.Bytes.{length-to-top, list-to-top, list-size, list-byte}
 
 -- a position that is not listed has type 0
 pub free-kind : (t : List Node) (p : ℕ) → listedAt t p ≡ false → kindAt t p ≡ 0
@@ -88,3 +89,16 @@ same-of internal t bytes e =
 pub kinds-list : {t u : List Node} → SameKinds t u → (internal : ℕ) → nodeList internal t ≡ nodeList internal u
 unfolding nodeList
 kinds-list same internal = λ i. internal ∷ map (λ p. same .kind p i) (upFrom 1 (kinds-highest same i))
+
+-- told the types alone and the highest listed position, the code measures, writes and compares the node list
+module _ {t u : List Node} (same : SameKinds t u) (internal : ℕ) where
+  pub kinds-to-top : listTo (highestListed u) internal t ≡ nodeList internal u
+  unfolding listTo
+  kinds-to-top = (λ i. internal ∷ map (λ p. same .kind p i) (upFrom 1 (min (highestListed u) 40))) ∙ list-to-top internal u
+
+  pub output-to-top : (out : List ℕ) → (writtenTo (highestListed u) out ≡ written u out) × (outputTo (highestListed u) internal t out ≡ output internal u out)
+  output-to-top out = (rw (length-to-top u) refl, rw (length-to-top u, kinds-to-top) refl)
+
+  pub same-to-top : (bytes : List ℕ) → sameTo (highestListed u) internal t bytes ≡ sameList internal u bytes
+  unfolding sameTo sameByteTo sameList sameByte
+  same-to-top bytes = λ i. eqb (length bytes) (length-to-top u i) && all (λ j. eqb (getD bytes j 0) (getD (kinds-to-top i) j 0)) (length-to-top u i)

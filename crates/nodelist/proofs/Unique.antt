@@ -8,7 +8,6 @@ use base.Fml.{Lft}
 use denote.Ref.{RefT, now}
 use Rattle.refusal.specs.Refusal.{Told}
 use Rattle.refusal.proofs.Numbers.{not-zero, same-refused}
-use Rattle.board.specs.declared.Table.{Table}
 use Rattle.nodelist.specs.List.{told}
 use Rattle.nodelist.specs.declared.Listing.{Listing}
 use Rattle.nodelist.specs.declared.Listing.the-variants.{Written, Refused}
@@ -23,17 +22,17 @@ same-told (Written m) (Refused q) h = absurd (not-zero q (sym (ap (λ (t : Told)
 same-told (Refused r) (Written n) h = absurd (not-zero r (ap (λ (t : Told). t .number) h))
 same-told (Refused r) (Refused q) h = ap Refused (same-refused r q h)
 
-pub unique-list-length : (a s t : _) (r q : ℕ) → list-length.Post tt a r s → list-length.Post tt a q t → r ≡ q
-unique-list-length a s t r q p p′ = p ∙ sym p′
+pub unique-list-length : (κs a s t : _) (r q : ℕ) → list-length.Post κs a r s → list-length.Post κs a q t → r ≡ q
+unique-list-length κs a s t r q p p′ = p ∙ sym p′
 
 abbrev Writes : Type 0
-Writes = ℕ × (Table × (RefT (List ℕ) × Unit {0}))
+Writes = ℕ × (RefT (List ℕ) × (ℕ × (RefT (List ℕ) × Unit {0})))
 
 abbrev out : Writes → List ℕ
-out s = now (s .1 .1 .0)
+out s = now (s .1 .1 .1 .0)
 
-pub unique-write-list : (κs : Lft × Unit {0}) (a : Writes) (r q : Listing) (s t : Writes) → write-list.Post κs a r s → write-list.Post κs a q t → (r ≡ q) × (out s ≡ out t)
+pub unique-write-list : (κs : Lft × (Lft × Unit {0})) (a : Writes) (r q : Listing) (s t : Writes) → write-list.Post κs a r s → write-list.Post κs a q t → (r ≡ q) × (out s ≡ out t)
 unique-write-list κs a r q s t p p′ = (same-told r q (p .0 ∙ sym (p′ .0)), p .1 ∙ sym (p′ .1))
 
-pub unique-same-list : (κs : Lft × Unit {0}) (a s t : _) (r q : Bool) → same-list.Post κs a r s → same-list.Post κs a q t → r ≡ q
+pub unique-same-list : (κs : Lft × (Lft × Unit {0})) (a s t : _) (r q : Bool) → same-list.Post κs a r s → same-list.Post κs a q t → r ≡ q
 unique-same-list κs a s t r q p p′ = p ∙ sym p′

@@ -1,5 +1,5 @@
 -- The node list (01, "Boards and positions"; 003, 5.14).
-use Prim.Native.Nat.{ℕ, _+_}
+use Prim.Native.Nat.{ℕ, _+_, min}
 use mathlib.Core.Bool.{Bool, _&&_}
 use mathlib.Core.List.{List, [], _∷_, map}
 use lib.ListN.{length, getD}
@@ -51,3 +51,31 @@ sameByte internal t bytes i = eqb (getD bytes i 0) (getD (nodeList internal t) i
 -- the bytes received are the list: as many, and each the same (01, "type 0x94 whose payload equals the list sent")
 unfoldable pub sameList : ℕ → List Node → List ℕ → Bool
 sameList internal t bytes = eqb (length bytes) (listLength t) && all (sameByte internal t bytes) (listLength t)
+
+-- the list up to a position that is given, one of the forty: the code is told the highest listed one (01, "Node list payload"; house)
+unfoldable pub listTo : ℕ → ℕ → List Node → List ℕ
+listTo top internal t = internal ∷ map (kindAt t) (upFrom 1 (min top 40))
+
+-- one byte more than that position (01, "Node list payload")
+abbrev pub lengthTo : ℕ → ℕ
+lengthTo top = min top 40 + 1
+
+-- 11 where the output is shorter (01, "Numbers", 11)
+abbrev pub rulesTo : ℕ → List ℕ → List (Bool × Refusal)
+rulesTo top out = (ltb (length out) (lengthTo top), NoRoom) ∷ []
+
+-- what writing it answers: 11, or the count of bytes written (01, "Node list payload")
+abbrev pub writtenTo : ℕ → List ℕ → Told
+writtenTo top out = ruled (rulesTo top out) refuses (gives (lengthTo top ∷ []))
+
+-- what the output holds after (01, "On success, output past the frame keeps its bytes")
+abbrev pub outputTo : ℕ → ℕ → List Node → List ℕ → List ℕ
+outputTo top internal t out = ruled (rulesTo top out) (λ refusal. out) (laid (listTo top internal t) out)
+
+-- byte i received is byte i of it (01, "type 0x94 whose payload equals the list sent")
+unfoldable pub sameByteTo : ℕ → ℕ → List Node → List ℕ → ℕ → Bool
+sameByteTo top internal t bytes i = eqb (getD bytes i 0) (getD (listTo top internal t) i 0)
+
+-- the bytes received are as many, and each the same (01, "type 0x94 whose payload equals the list sent")
+unfoldable pub sameTo : ℕ → ℕ → List Node → List ℕ → Bool
+sameTo top internal t bytes = eqb (length bytes) (lengthTo top) && all (sameByteTo top internal t bytes) (lengthTo top)

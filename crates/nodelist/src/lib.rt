@@ -1,8 +1,8 @@
 // The node list: the bytes that tell every board which types stand at which positions, written, measured and compared.
-use board::Table;
 use refusal::Refusal;
 ghost use mathlib.Core.Path.{_≡_};
-ghost use Rattle.nodelist.specs.List.{listLength, written, output, told, sameList};
+ghost use Rattle.board.specs.Columns.{typed};
+ghost use Rattle.nodelist.specs.List.{lengthTo, writtenTo, outputTo, told, sameTo};
 
 // What writing the list answers: the count of bytes written, or why nothing was.
 pub enum Listing {
@@ -10,18 +10,18 @@ pub enum Listing {
     Refused(Refusal),
 }
 
-// How many bytes the list has.
-pub fn list_length(table: Table) -> usize
-    ensures { λ r. ⌜ r ≡ listLength (table .nodes) ⌝ }
+// How many bytes the list has, up to the highest listed position, which the caller has found.
+pub fn list_length(top: usize) -> usize
+    ensures { λ r. ⌜ r ≡ lengthTo top ⌝ }
 {
-    board::highest_listed(table) + 1
+    ground::least(top, 40) + 1
 }
 
 // Writes the list at the front of the output; no byte changes where it does not fit.
-pub fn write_list(internal: u8, table: Table, out: &mut [u8]) -> Listing
-    ensures { λ r. ⌜ (told r ≡ written (table .nodes) (now (out .entry))) × (now (out .exit) ≡ output internal (table .nodes) (now (out .entry))) ⌝ }
+pub fn write_list(internal: u8, kinds: &[u8; 40], top: usize, out: &mut [u8]) -> Listing
+    ensures { λ r. ⌜ (told r ≡ writtenTo top (now (out .entry))) × (now (out .exit) ≡ outputTo top internal (typed (now (kinds .entry))) (now (out .entry))) ⌝ }
 {
-    let n = list_length(table);
+    let n = list_length(top);
     if out.len() < n {
         return Listing::Refused(Refusal::NoRoom);
     }
@@ -29,17 +29,17 @@ pub fn write_list(internal: u8, table: Table, out: &mut [u8]) -> Listing
     let mut i: usize = 1;
     while i < n {
         let p = i - 1;
-        out[i] = table.nodes[p].kind;
+        out[i] = kinds[p];
         i += 1;
     }
     Listing::Written(n)
 }
 
 // Whether the bytes received are the list, byte for byte.
-pub fn same_list(internal: u8, table: Table, received: &[u8]) -> bool
-    ensures { λ r. ⌜ r ≡ sameList internal (table .nodes) (now (received .entry)) ⌝ }
+pub fn same_list(internal: u8, kinds: &[u8; 40], top: usize, received: &[u8]) -> bool
+    ensures { λ r. ⌜ r ≡ sameTo top internal (typed (now (kinds .entry))) (now (received .entry)) ⌝ }
 {
-    let n = list_length(table);
+    let n = list_length(top);
     if received.len() != n {
         return false;
     }
@@ -47,7 +47,7 @@ pub fn same_list(internal: u8, table: Table, received: &[u8]) -> bool
     let mut i: usize = 1;
     while i < n {
         let p = i - 1;
-        same = same & (received[i] == table.nodes[p].kind);
+        same = same & (received[i] == kinds[p]);
         i += 1;
     }
     same

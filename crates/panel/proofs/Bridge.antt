@@ -1,27 +1,15 @@
--- From the lent forms to the rest: a lent step is the by-value step, a lent setup is a fresh start, and a series of lent steps is a series of the panel of demand 3. So every theorem
+-- From the lent forms to the rest: a lent setup is a fresh start, and a series of lent steps is a series of the panel of demand 3. So every theorem
 -- about that panel (crates lasting, staying, turns) holds of the coordinator and the records that a host lends, with no second proof.
-use Prim.Native.Nat.{ℕ}
 use mathlib.Core.Path.{_≡_, refl, sym, ap, subst, _∙_}
 use mathlib.Core.List.{List, [], _∷_}
 use lib.ListN.{length}
-use denote.Ref.{RefT, now}
-use Rattle.board.specs.declared.Node.{Node}
-use Rattle.coordinator.specs.declared.Coordinator.{Coordinator}
+use denote.Ref.{now}
 use Rattle.steps.specs.declared.Outcome.{Outcome}
-use Rattle.steps.specs.declared.Stepped.{Stepped}
 use Rattle.steps.specs.After.{Shown, told, rests, shows}
 use Rattle.series.specs.Series.{Input, World, left, Fresh, fresh-start, after}
 use Rattle.series.specs.Ours.{ours}
 use Rattle.lent.specs.Lent.{inPlace}
-use Rattle.lent.proofs.InPlace.{same-in-place}
-use Rattle.stepping.proofs.step.Reads as by-value
 use Rattle.panel.proofs.Unique.{Setups, set-up, SaysSetup, Steps, output, Says}
-
--- a lent step answers, and leaves in coordinator, records and output, what the step by value gives on the same coordinator, records and output
-pub is-by-value : (κs : _) (a s : Steps) (r : Outcome) (q : Stepped) (t : _)
-    → Says a r s → by-value.Post κs (now (a .0), (record { nodes = now (a .1 .0) }, a .1 .1)) q t
-    → ((r ≡ q .outcome) × ((now (s .0) ≡ q .coordinator) × (now (s .1 .0) ≡ q .table .nodes))) × (output s ≡ now (t .1 .1 .1 .1 .0))
-is-by-value κs a s r q t p p′ = (same-in-place r (q .outcome) _ (q .coordinator) _ (q .table .nodes) (p .0 ∙ sym (p′ .0)), p .1 ∙ sym (p′ .1))
 
 -- what a host lends to a step: its coordinator and its records, and the event with the received bytes and the room
 abbrev world : Steps → World

@@ -1,7 +1,7 @@
-pub mod Lists
 pub mod Locals
 pub mod Nodes
 pub mod Shared
-pub mod Turns
+pub mod Looked
+pub mod Zeros
 pub mod Unique
 pub mod Bridge

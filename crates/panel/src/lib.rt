@@ -1,56 +1,22 @@
-// The lent forms: the host's coordinator and records, updated where they stand, for Rattle and for C. Each takes what is lent apart, calls a covered
-// function on copies, and puts back what that function left. Records that are not forty get 22, and stay as they were.
+// The lent forms: the host's coordinator and records, updated where they stand, for Rattle and for C. A step looks, has it decided, and
+// changes; for the others a covered function that sees no record says which are edited, and how. Records that are not forty get 22, and
+// stay as they were.
 use board::Node;
 use board::Table;
+use change::Edit;
 use coordinator::Coordinator;
 use steps::Event;
 use steps::Outcome;
 use steps::Stepped;
 ghost use mathlib.Core.Path.{_≡_};
-ghost use Prim.Native.Nat.{min};
 ghost use lib.ListN.{length};
 ghost use Rattle.ground.specs.Bytes.{laid};
 ghost use Rattle.steps.specs.After.{shows, shown};
 ghost use Rattle.steps.specs.Start.{startOf};
 ghost use Rattle.steps.specs.Step.{stepOf};
-ghost use Rattle.lent.specs.Lent.{loaded, stored, inPlace};
+ghost use Rattle.lent.specs.Lent.{inPlace};
 ghost use Rattle.lent.specs.Numbers.{eventOf, facing, faced};
 ghost use Rattle.lent.specs.Amend.{amends, listing, clearing, marking, amendOf};
-
-// As many as there are, and no more than forty.
-fn at_most_forty(count: usize) -> usize
-    ensures { λ r. ⌜ r ≡ min count 40 ⌝ }
-{
-    ground::least(count, 40)
-}
-
-// The table of lent records. It goes by a local array: a table that is handed to a function inside a loop would be copied for each record.
-fn load(nodes: &[Node]) -> Table
-    ensures { λ r. ⌜ r .nodes ≡ loaded (now (nodes .entry)) ⌝ }
-{
-    let m = at_most_forty(nodes.len());
-    let e = coordinator::blank_table();
-    let mut ns = e.nodes;
-    let mut i = 0;
-    while i < m {
-        ns[i] = nodes[i];
-        i = i + 1;
-    }
-    Table { nodes: ns }
-}
-
-// The table put back over lent records.
-fn store(nodes: &mut [Node], table: Table)
-    ensures { λ _. ⌜ now (nodes .exit) ≡ stored (table .nodes) (now (nodes .entry)) ⌝ }
-{
-    let m = at_most_forty(nodes.len());
-    let ns = table.nodes;
-    let mut i = 0;
-    while i < m {
-        nodes[i] = ns[i];
-        i = i + 1;
-    }
-}
 
 // Setup: the fresh start, in place.
 pub fn setup(
@@ -65,23 +31,13 @@ pub fn setup(
     ensures { λ r. ⌜ inPlace r (now (coordinator .exit)) (now (nodes .exit)) ≡ shows (startOf (now (coordinator .entry)) (now (nodes .entry)) (now (addresses .entry)) subnet internal mac session) ⌝ }
 {
     let n = nodes.len();
-    let t = load(nodes);
-    let r = lent::counted_setup(
-        *coordinator,
-        t,
-        n,
-        addresses,
-        subnet,
-        internal,
-        mac,
-        session,
-    );
-    store(nodes, r.table);
+    let r = start::begin(*coordinator, n, addresses, subnet, internal, mac, session);
+    place::amend(nodes, 0, r.clear, Edit::Cleared);
     *coordinator = r.coordinator;
     r.outcome
 }
 
-// The panel's step, in place. Received bytes are looked at by the event Frame alone, and the output is written by Turn, Frame and Discover alone.
+// The panel's step, in place: look, decide, change. Received bytes are looked at by the event Frame alone, and the output is written by Turn, Frame and Discover alone.
 pub fn step(
     coordinator: &mut Coordinator,
     nodes: &mut [Node],
@@ -91,12 +47,25 @@ pub fn step(
 ) -> Outcome
     ensures { λ r. ⌜ (inPlace r (now (coordinator .exit)) (now (nodes .exit)) ≡ shows (stepOf (now (coordinator .entry)) (now (nodes .entry)) event (now (received .entry)) (length (now (out .entry))))) × (now (out .exit) ≡ laid (stepOf (now (coordinator .entry)) (now (nodes .entry)) event (now (received .entry)) (length (now (out .entry))) .bytes) (now (out .entry))) ⌝ }
 {
-    let n = nodes.len();
-    let t = load(nodes);
-    let r = lent::counted_step(*coordinator, t, n, event, received, out);
-    store(nodes, r.table);
-    *coordinator = r.coordinator;
-    r.outcome
+    let mut kinds = [0u8; 40];
+    let mut marks = [0u8; 40];
+    let mut macs = [0u64; 40];
+    let seen = place::look(coordinator, nodes, &mut kinds, &mut marks, &mut macs);
+    let node = place::record_at(nodes, seen.state.stand.board);
+    let change = stepping::counted(
+        nodes.len(),
+        seen,
+        node,
+        &coordinator.kept.payload,
+        &kinds,
+        &marks,
+        &macs,
+        event,
+        received,
+        out,
+    );
+    place::make(coordinator, nodes, seen.state, change, received);
+    change.outcome
 }
 
 // A board listed at a position, in place.
@@ -111,9 +80,8 @@ pub extern "C" fn nadrelgos_list(
     ensures { λ r. ⌜ amends r (now (nodes .exit)) ≡ amendOf (length (now (nodes .entry))) (now (nodes .entry)) (listing (now (nodes .entry)) position kind mac session) ⌝ }
 {
     let n = nodes.len();
-    let t = load(nodes);
-    let r = lent::counted_list(t, n, position, kind, mac, session);
-    store(nodes, r.table);
+    let r = lent::list_edit(n, position, kind, mac, session);
+    place::amend(nodes, r.from, r.to, r.edit);
     r.answer
 }
 
@@ -123,9 +91,8 @@ pub extern "C" fn nadrelgos_clear(nodes: &mut [Node], position: usize) -> u64
     ensures { λ r. ⌜ amends r (now (nodes .exit)) ≡ amendOf (length (now (nodes .entry))) (now (nodes .entry)) (clearing (now (nodes .entry)) position) ⌝ }
 {
     let n = nodes.len();
-    let t = load(nodes);
-    let r = lent::counted_clear(t, n, position);
-    store(nodes, r.table);
+    let r = lent::clear_edit(n, position);
+    place::amend(nodes, r.from, r.to, r.edit);
     r.answer
 }
 
@@ -135,9 +102,8 @@ pub extern "C" fn nadrelgos_mark(nodes: &mut [Node], position: usize) -> u64
     ensures { λ r. ⌜ amends r (now (nodes .exit)) ≡ amendOf (length (now (nodes .entry))) (now (nodes .entry)) (marking (now (nodes .entry)) position) ⌝ }
 {
     let n = nodes.len();
-    let t = load(nodes);
-    let r = lent::counted_mark(t, n, position);
-    store(nodes, r.table);
+    let r = lent::mark_edit(n, position);
+    place::amend(nodes, r.from, r.to, r.edit);
     r.answer
 }
 

@@ -1,4 +1,4 @@
--- What quiet does, case by case.
+-- What quiet does, case by case, of fit coordinator and records.
 use Prim.Native.Nat.{ℕ, _≤_, _<_}
 use mathlib.Core.Path.{_≡_, refl, sym, ap, _∙_}
 use mathlib.Core.Bool.{Bool, true, false, not}
@@ -9,7 +9,7 @@ use lib.Dec.{ltb}
 use borrow.Author.Tests.{lt-ltb, le-ltb}
 use Rattle.ground.specs.Choose.{choose}
 use Rattle.ground.proofs.Choices.{choose-yes, choose-no, not-yes, not-no}
-use Rattle.refusal.specs.declared.Refusal.the-variants.{StateUnfit, NotWaiting}
+use Rattle.refusal.specs.declared.Refusal.the-variants.{NotWaiting}
 use Rattle.board.specs.declared.Node.{Node}
 use Rattle.board.specs.Table.{at, put}
 use Rattle.board.specs.Change.{missed}
@@ -26,10 +26,7 @@ use Rattle.coordinator.specs.Change.{withPhase}
 use Rattle.steps.specs.After.{refused, resting}
 use Rattle.steps.specs.Seek.{isWaiting, quietInSeek}
 use Rattle.steps.specs.Turn.{isAwaiting}
-use Rattle.steps.specs.Quiet.{stillHeld, droppedAt, missedAt, quietValue, quietIn, quietOf}
-
-pub same-held : {c d : Coordinator} {t u : List Node} → c ≡ d → t ≡ u → stillHeld c t ≡ stillHeld d u
-same-held e f = λ i. stillHeld (e i) (f i)
+use Rattle.steps.specs.Quiet.{droppedAt, missedAt, quietValue, quietIn, quietOf}
 
 -- the variants but the second and the fifth, the wait and the exchange by which a board joins: what the other arm of a match on the phase is told
 pub no-wait : (p : Phase) → OneOf (0 ∷ 2 ∷ 3 ∷ 5 ∷ []) (tagOf the-type p) → isAwaiting p ≡ false
@@ -42,16 +39,12 @@ no-wait Unknown h = refl
 
 module _ (c : Coordinator) (t : List Node) where
   -- with at most one miss so far, there is one more
-  pub miss-noted : (b : ℕ) (n : Node) → n ≡ at t b → n .misses < 2 → missedAt c t b ≡ resting (withPhase c Resting) (put t b (missed n)) 0 0
-  miss-noted b n e h = sym (choose-yes _ _ _ _ (ap (λ (m : Node). ltb (m .misses) 2) (sym e) ∙ lt-ltb (n .misses) 2 h) (ap (λ (m : Node). resting (withPhase c Resting) (put t b (missed m)) 0 0) e))
+  pub miss-noted : (b : ℕ) {n : Node} → n ≡ at t b → n .misses < 2 → missedAt c t b ≡ resting (withPhase c Resting) (put t b (missed (at t b))) 0 0
+  miss-noted b {n} e h = sym (choose-yes _ _ _ _ (ap (λ (m : Node). ltb (m .misses) 2) (sym e) ∙ lt-ltb (n .misses) 2 h) refl)
 
   -- with two, the third drops the board
-  pub third-drops : (b : ℕ) (n : Node) → n ≡ at t b → 2 ≤ n .misses → missedAt c t b ≡ droppedAt c t b
-  third-drops b n e h = sym (choose-no _ _ _ _ (ap (λ (m : Node). ltb (m .misses) 2) (sym e) ∙ le-ltb (n .misses) 2 h) refl)
-
-  pub unfit : fits c t ≡ false → quietOf c t ≡ refused c t StateUnfit
-  unfolding quietIn
-  unfit h = sym (choose-yes _ _ _ _ (not-yes (fits c t) h) refl)
+  pub third-drops : (b : ℕ) {n : Node} → n ≡ at t b → 2 ≤ n .misses → missedAt c t b ≡ droppedAt c t b
+  third-drops b {n} e h = sym (choose-no _ _ _ _ (ap (λ (m : Node). ltb (m .misses) 2) (sym e) ∙ le-ltb (n .misses) 2 h) refl)
 
   module _ (h : fits c t ≡ true) where
     pub not-waiting : isAwaiting (phaseOf (c .stand)) ≡ false → quietOf c t ≡ refused c t NotWaiting

@@ -1,56 +1,53 @@
 // Quiet: the wait is over and no frame has ended it.
-use board::Table;
-use coordinator::Coordinator;
+use board::Node;
+use board::Wanted;
+use change::Change;
+use change::Edit;
+use change::Move;
 use coordinator::Phase;
+use look::Seen;
 use refusal::Refusal;
-use steps::Stepped;
 ghost use mathlib.Core.Path.{_≡_};
-ghost use Rattle.steps.specs.After.{shown, shows};
-ghost use Rattle.steps.specs.Quiet.{stillHeld, droppedAt, missedAt, quietOf};
+ghost use Rattle.ground.specs.Choose.{choose};
+ghost use Rattle.board.specs.Table.{at};
+ghost use Rattle.board.specs.Columns.{kindsOf};
+ghost use Rattle.coordinator.specs.declared.Phase.the-variants.{Resting};
+ghost use Rattle.steps.specs.Quiet.{missedAt, quietOf};
+ghost use Rattle.change.specs.declared.Move.the-variants.{To, Emptied};
+ghost use Rattle.change.specs.Decides.{Makes};
 
-// Joins are held no more where nobody is listed.
-fn still_held(coordinator: Coordinator, table: Table) -> Coordinator
-    ensures { λ r. ⌜ r ≡ stillHeld coordinator (table .nodes) ⌝ }
+// The coordinator rests; joins are held no more where nobody is listed.
+fn rested(listed: bool) -> Move
+    ensures { λ r. ⌜ r ≡ choose listed (To Resting) Emptied ⌝ }
 {
-    if board::some_listed(table) {
-        coordinator
-    } else {
-        coordinator::holding(coordinator, false)
+    if listed {
+        return Move::To(Phase::Resting);
     }
+    Move::Emptied
 }
 
-// The board is dropped, and the list is owed to all who remain.
-fn drop_at(coordinator: Coordinator, table: Table, board: usize) -> Stepped
-    ensures { λ r. ⌜ shown r ≡ shows (droppedAt coordinator (table .nodes) board) ⌝ }
+// The board did not answer: one miss more, and the third drops it. The list is then owed to all who remain: somebody does
+// where the highest or the lowest listed position is another.
+fn missing(seen: Seen, node: Node, kinds: &[u8; 40], board: usize) -> Change
+    ensures { λ r. ⌜ Makes seen (λ c t. (now (kinds .entry) ≡ kindsOf t) × (node ≡ at t board)) (λ c t. missedAt c t board) r ⌝ }
 {
-    let cleared = board::clear_at(table, board);
-    let owed = board::owe_all(cleared);
-    let rested = coordinator::with_phase(coordinator, Phase::Resting);
-    steps::resting(still_held(rested, cleared), owed, 0, board)
-}
-
-// The board did not answer: one miss more, and the third drops it.
-fn miss_at(coordinator: Coordinator, table: Table, board: usize) -> Stepped
-    ensures { λ r. ⌜ shown r ≡ shows (missedAt coordinator (table .nodes) board) ⌝ }
-{
-    let node = board::record_at(table, board);
     if node.misses < 2 {
-        let noted = board::put_at(table, board, board::missed(node));
-        let rested = coordinator::with_phase(coordinator, Phase::Resting);
-        steps::resting(rested, noted, 0, 0)
-    } else {
-        drop_at(coordinator, table, board)
+        return change::resting(Move::To(Phase::Resting), board, Edit::Missed, false, 0, 0);
     }
+    let lowest = board::lowest(kinds, Wanted::Listed, 40);
+    let others = (0 < seen.top) & ((seen.top != board) | (lowest != board));
+    let left = rested(others);
+    change::resting(left, board, Edit::Cleared, true, 0, board)
 }
 
-// The wait ends. It is a miss, unless the ACK to a forward has come, or it was in the exchange by which a board joins.
-pub fn quiet(coordinator: Coordinator, table: Table) -> Stepped
-    ensures { λ r. ⌜ shown r ≡ shows (quietOf coordinator (table .nodes)) ⌝ }
+// The wait ends. It is a miss, unless the ACK to a forward has come, or it was in the exchange by which a board joins. The
+// node is the record of the board that the stand names.
+pub fn quiet(seen: Seen, node: Node, kinds: &[u8; 40]) -> Change
+    ensures { λ r. ⌜ Makes seen (λ c t. (now (kinds .entry) ≡ kindsOf t) × (node ≡ at t (c .stand .board))) (λ c t. quietOf c t) r ⌝ }
 {
-    if !coordinator::fits(coordinator, table) {
-        return steps::refusing(coordinator, table, Refusal::StateUnfit);
-    }
-    let phase = coordinator::phase_of(coordinator.stand);
+    let state = seen.state;
+    let stand = state.stand;
+    let phase = coordinator::phase_of(stand);
     match phase {
         Phase::Awaiting {
             board,
@@ -59,13 +56,12 @@ pub fn quiet(coordinator: Coordinator, table: Table) -> Stepped
             acked,
         } => {
             if acked {
-                let rested = coordinator::with_phase(coordinator, Phase::Resting);
-                steps::resting(rested, table, 0, 0)
+                change::resting(Move::To(Phase::Resting), 0, Edit::Nothing, false, 0, 0)
             } else {
-                miss_at(coordinator, table, board)
+                missing(seen, node, kinds, board)
             }
         }
-        Phase::Seeking { position, part } => seek::quieted(part, position, coordinator, table),
-        _ => steps::refusing(coordinator, table, Refusal::NotWaiting),
+        Phase::Seeking { position, part } => seek::quieted(part, position),
+        _ => change::refusing(Refusal::NotWaiting),
     }
 }

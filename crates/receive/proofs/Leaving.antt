@@ -1,34 +1,45 @@
 -- What the parts of the step leave, by what their tests and calls gave.
-use Rattle.steps.proofs.Shows.{leaves-as}
-use Rattle.steps.proofs.Writes.{shownAs, leaves-ack-written}
-use Prim.Native.Nat.{ℕ, _+_, _-_, _≤_}
+use Prim.Native.Nat.{ℕ, _+_, _-_, _≤_, _<_}
 use native.Mathlib.Omega.{arith}
 use mathlib.Core.Path.{_≡_, refl, sym, ap, _∙_}
-use mathlib.Core.Bool.{Bool, true, false, _&&_, not}
+use mathlib.Core.Bool.{Bool, true, false, not, false≢true}
 use mathlib.Core.List.{List, [], _∷_, _++_}
-use lib.ListN.{length, length-take, take, drop}
+use lib.ListN.{length, take, drop, length-drop}
+use lib.Seq.{length-take-le}
 use lib.Dec.{eqb}
-use borrow.Author.Tests.{eq-eqb, ne-eqb}
+use borrow.Author.Tests.{eq-eqb, ne-eqb, lt-ltb, le-ltb}
 use types.Run.{OneOf, miss}
 use denote.Enum.Declared.{tagOf}
+use Rattle.ground.specs.Choose.{choose}
 use Rattle.ground.proofs.Choices.{choose-yes, choose-no, not-yes, not-no}
-use Rattle.refusal.specs.Refusal.{Told}
 use Rattle.refusal.specs.declared.Refusal.{Refusal}
-use Rattle.refusal.specs.declared.Refusal.the-variants.{StateUnfit, NotForUs, NotDiscovering, NotAwaited}
+use Rattle.refusal.specs.declared.Refusal.the-variants.{NotForUs, NotDiscovering, NotAwaited}
 use Rattle.refusal.proofs.Rules.{Passed, passed, gave, refused as refused-for}
 use Rattle.frame.specs.declared.Header.{Header}
 use Rattle.frame.specs.declared.Reading.{Reading}
 use Rattle.frame.specs.declared.Reading.the-variants.{Frame, Refused as NotRead}
 use Rattle.frame.specs.declared.Writing.{Writing}
 use Rattle.frame.specs.declared.Writing.the-variants.{Written, Refused as NotWritten}
-use Rattle.frame.specs.Frame.{fields, headerOf, lengthByte, readRules, reading, payloadOf, told}
+use Rattle.frame.specs.Frame.{fields, headerOf, lengthByte, readRules, reading, told as told-read}
 use Rattle.frame.proofs.Told.{WellRead, read-frame}
 use Rattle.board.specs.declared.Node.{Node}
-use Rattle.board.specs.Change.{heard, renewed}
+use Rattle.board.specs.Table.{at, put}
+use Rattle.board.specs.Change.{heard, renewed, oweAll}
+use Rattle.board.specs.Columns.{kindsOf, typed}
+use Rattle.board.proofs.SameKinds.{SameKinds}
 use Rattle.setup.specs.declared.Setup.{Setup}
 use Rattle.setup.specs.Setup.{address}
+use Rattle.nodelist.specs.List.{sameList, sameTo}
+use Rattle.nodelist.proofs.Theorems.{same-to-top}
+use Rattle.routing.specs.Route.{routeOf}
+use Rattle.routing.proofs.Theorems.{kinds-route}
+use Rattle.message.proofs.Messages.{kinds-header}
 use Rattle.message.specs.Message.{signedHeader, signed, signedFrame, ackCode, Sends}
+use Rattle.accept.proofs.Heard as hearings
+use Rattle.accept.specs.declared.Heard.{Heard as Hearing}
+use Rattle.accept.specs.declared.Heard.the-variants.{Ack, Echo, Deliver, Route, Answer as Response, Refused as NotTaken}
 use Rattle.coordinator.specs.declared.Coordinator.{Coordinator}
+use Rattle.coordinator.specs.declared.Kept.{Kept}
 use Rattle.coordinator.proofs.Exchange as exchange
 use Rattle.coordinator.specs.declared.Exchange.{Exchange}
 use Rattle.coordinator.specs.declared.Exchange.the-variants.{Offer, List as Listing, Forward, Return}
@@ -39,22 +50,31 @@ use Rattle.coordinator.proofs.Phase as phase
 use Rattle.coordinator.specs.declared.Phase.{Phase}
 use Rattle.coordinator.specs.declared.Phase.the-variants.{Resting, Awaiting, ForwardDue, ReturnDue, Seeking, Unknown}
 use Rattle.coordinator.specs.Phase.{phaseOf}
-use Rattle.coordinator.specs.Fit.{fits}
-use Rattle.coordinator.specs.Change.{withPhase}
-use Rattle.steps.specs.declared.Stepped.{Stepped}
-use Rattle.steps.specs.After.{After, Shown, shown, shows, leaving, refused, accepted, rests, Leaves}
+use Rattle.coordinator.specs.Change.{withPhase, keeping}
+use Rattle.coordinator.specs.State.{headOf, keptAs, bare}
+use Rattle.coordinator.proofs.Phases.{waited-board}
+use Rattle.look.specs.declared.Seen.{Seen}
+use Rattle.look.specs.Seen.{Saw}
+use Rattle.look.proofs.Seeing.{kinds-seen}
+use Rattle.steps.specs.declared.Answer.{Answer}
+use Rattle.steps.specs.declared.Answer.the-variants.{Refuse}
+use Rattle.steps.specs.After.{After, Shown, shows, leaving, refused, accepted, rests, transmits, told}
 use Rattle.steps.specs.Hear.{hear}
-use Rattle.steps.specs.Seek.{isWaiting, sourceIn}
-use Rattle.steps.specs.Receive.{awaits, isStray, acking, acked, takenIn, payload, receiveIn, receiveOf}
-use Rattle.receive.specs.Parts.{waited, listened}
+use Rattle.steps.specs.Seek.{sourceIn}
+use Rattle.steps.specs.Receive.{payload, awaits, answersForward, isStray, heardIn, hearAck, keptOf, acking, routed, acked, takenAs, takenIn, receiveIn, receiveOf}
+use Rattle.steps.proofs.Writes.{shownAs, leaves-ack-written}
+use Rattle.change.specs.declared.Edit.the-variants.{Nothing, Heard, Renewed}
+use Rattle.change.specs.declared.Move.{Move}
+use Rattle.change.specs.declared.Move.the-variants.{Stay, Keeping}
+use Rattle.change.specs.declared.Change.{Change}
+use Rattle.change.specs.Change.{keptBytes, moved, changing, applied}
+use Rattle.change.proofs.Keeping.{keeps-whole}
+use Rattle.change.proofs.Making.{makes-edit, makes-owed, makes-refusal, made, Shows, shows-as}
+use Rattle.receive.specs.Parts.{Brings, hearing, isAcknowledged, waited, listened}
 
 -- a refusal leaves the output as it was
-pub leaves-refused : (r : Stepped) (o : List ℕ) (c : Coordinator) (t : List Node) (q : Refusal) {a : After} → a ≡ refused c t q → shown r ≡ shows (refused c t q) → Leaves a r o o
-leaves-refused r o c t q e h = leaves-as r o o e (h, refl)
-
--- a board that is heard with the session on record keeps it
-pub same-session : (n : Node) (session : ℕ) → session ≡ n .session → renewed (heard n) session ≡ heard n
-same-session n session e = rw e refl
+pub shows-refused : (b o : List ℕ) (c : Coordinator) (t : List Node) (q : Refusal) {a : After} {x : Change} → a ≡ refused c t q → x ≡ changing Stay 0 Nothing false (Refuse q) 0 0 0 → Shows a (applied x b c t) o o
+shows-refused b o c t q e h = shows-as o o e (makes-refusal b c t q h, refl)
 
 -- an ACK ends each wait but a forward's
 pub acked-ends : (e : Exchange) (board requester : ℕ) (c : Coordinator) (t : List Node) → OneOf (0 ∷ 1 ∷ 3 ∷ []) (tagOf exchange.the-type e) → acked e board requester c t ≡ accepted (withPhase c Resting) t rests []
@@ -63,29 +83,89 @@ acked-ends Listing board requester c t k = refl
 acked-ends Forward board requester c t k = absurd (miss (0 ∷ 1 ∷ 3 ∷ []) 2 tt k)
 acked-ends Return board requester c t k = refl
 
--- for an ACK nothing is written
-pub leaves-ack : (r : Stepped) (o : List ℕ) (e : Exchange) (board requester : ℕ) (c : Coordinator) {t u : List Node} → t ≡ u → shown r ≡ shows (acked e board requester c t) → Leaves (acked e board requester c u) r o o
-leaves-ack r o e board requester c {t} {u} q h = leaves-as r o o (ap (acked e board requester c) (sym q)) (silent e h)
+-- an ACK that is heard
+pub makes-heard : (b : List ℕ) (c : Coordinator) (t : List Node) (m : Move) (board session : ℕ) (a : Answer) {x : Change} {n : Node} → x ≡ hearing m board n session a → n ≡ at t board → applied x b c t ≡ leaving (moved m b c) (hearAck t board session) (told a) 0 0 0
+unfolding choose
+makes-heard b c t m board session a {x} {n} h e = go (eqb session (at t board .session)) (h ∙ ap (λ (k : Node). hearing m board k session a) e)
   where
-    silent : (e : Exchange) → shown r ≡ shows (acked e board requester c t) → Leaves (acked e board requester c t) r o o
-    silent Offer h = (h, refl)
-    silent Listing h = (h, refl)
-    silent Forward h = (h, refl)
-    silent Return h = (h, refl)
+    go : (known : Bool) → x ≡ choose known (changing m board Heard false a 0 0 0) (changing m board (Renewed session) true a 0 0 0) → applied x b c t ≡ leaving (moved m b c) (choose known (hear t board) (oweAll (put t board (renewed (heard (at t board)) session)))) (told a) 0 0 0
+    go true q = makes-edit b c t board Heard a 0 0 0 q
+    go false q = makes-owed b c t board (Renewed session) a 0 0 0 q
 
--- what the caller is shown of an ACK that is due, by what its writing gave
-abbrev ackShown : Writing → Coordinator → List Node → List Node → Told → Coordinator → Shown
-ackShown (Written n) c t nodes says after = leaving after nodes says n 0 0
-ackShown (NotWritten q) c t nodes says after = shows (refused c t q)
+-- for an ACK nothing is written
+pub shows-ack : {s : Shown} (o : List ℕ) (e : Exchange) (board requester : ℕ) (c : Coordinator) (t : List Node) → s ≡ shows (acked e board requester c t) → Shows (acked e board requester c t) s o o
+shows-ack o Offer board requester c t h = (h, refl)
+shows-ack o Listing board requester c t h = (h, refl)
+shows-ack o Forward board requester c t h = (h, refl)
+shows-ack o Return board requester c t h = (h, refl)
 
--- of the writing of an ACK only 11 can be given, and its frame has 29 bytes
-module _ (c : Coordinator) (t : List Node) (board : ℕ) (says : Told) (after : Coordinator) (r : Stepped) (before left : List ℕ) where
-  pub leaves-acked : (w : Writing) → Sends (signedHeader (c .setup) t board) (signed (c .setup) ackCode) w before left → shown r ≡ ackShown w c t (hear t board) says after → Leaves (acking c t board (length before) says after) r before left
-  leaves-acked w s e = leaves-ack-written (c .setup) t board c t (accepted after (hear t board) says (signedFrame (c .setup) t board ackCode)) refl r before left w s (e ∙ as-written w)
-    where
-      as-written : (v : Writing) → ackShown v c t (hear t board) says after ≡ shownAs v c t (accepted after (hear t board) says (signedFrame (c .setup) t board ackCode))
-      as-written (Written n) = refl
-      as-written (NotWritten q) = refl
+-- the change of an ACK that is due, by what its writing gave
+abbrev pub ackedAs : Writing → Move → ℕ → Answer → Change
+ackedAs (Written n) after board answer = changing after board Heard false answer n 0 0
+ackedAs (NotWritten q) after board answer = changing Stay 0 Nothing false (Refuse q) 0 0 0
+
+-- the message kept of bytes that bring a frame is the frame's
+pub keeps-brought : (c : Coordinator) (w : Phase) (b : List ℕ) (h : Header) (p : List ℕ) → Brings b h p → moved (Keeping w) b c ≡ withPhase (keeping c (keptOf h p)) w
+keeps-brought c w b h p brought = λ i. withPhase (keeping c (keptAs (brought .0 i) (keptBytes (brought .1 i)))) w
+
+-- what was seen of the types tells what they tell of the records
+module _ {seen : Seen} {kinds : List ℕ} {c : Coordinator} {t : List Node} (s : Saw seen c t) (k : kinds ≡ kindsOf t) where
+  same : SameKinds (typed kinds) t
+  same = kinds-seen s k
+
+  -- the header of an ACK
+  header-seen : (board : ℕ) → signedHeader (seen .setup) (typed kinds) board ≡ signedHeader (c .setup) t board
+  header-seen board = rw (s .setup) (kinds-header same (c .setup) board 0 128)
+
+  -- where a request goes
+  route-seen : (sender method parameter : ℕ) → routeOf (typed kinds) (seen .setup .k) sender method parameter ≡ routeOf t (c .setup .k) sender method parameter
+  route-seen sender method parameter = rw (s .setup) (kinds-route same (c .setup .k) sender method parameter)
+
+  -- whether a payload is the list
+  pub list-seen : (p : List ℕ) → sameTo (seen .top) (seen .setup .internal) (typed kinds) p ≡ sameList (c .setup .internal) t p
+  list-seen p = rw (s .setup, s .top) (same-to-top same (c .setup .internal) p)
+
+  -- an ACK that is due: of its writing only 11 can be given, and its frame has 29 bytes
+  module _ (b : List ℕ) (board : ℕ) (answer : Answer) (after : Move) (before left : List ℕ) where
+    pub shows-acking : (w : Writing) → Sends (signedHeader (seen .setup) (typed kinds) board) (signed (seen .setup) ackCode) w before left → Shows (acking c t board (length before) (told answer) (moved after b c)) (applied (ackedAs w after board answer) b c t) before left
+    unfolding choose
+    shows-acking w sends = leaves-ack-written (c .setup) t board c t frame refl (made (ackedAs w after board answer) b c t) before left w (rw (header-seen board, s .setup) at sends) (shown-as w)
+      where
+        frame : After
+        frame = accepted (moved after b c) (hear t board) (told answer) (signedFrame (c .setup) t board ackCode)
+
+        shown-as : (v : Writing) → applied (ackedAs v after board answer) b c t ≡ shownAs v c t frame
+        shown-as (Written n) = refl
+        shown-as (NotWritten q) = makes-refusal b c t q refl
+
+  -- a request that is routed: kept for its board, or discarded where there is none
+  module _ (h : Header) (p : List ℕ) (board : ℕ) {to : ℕ} (e : to ≡ routeOf (typed kinds) (seen .setup .k) board (h .method) (h .parameter1)) where
+    goes : to ≡ routeOf t (c .setup .k) board (h .method) (h .parameter1)
+    goes = e ∙ route-seen board (h .method) (h .parameter1)
+
+    pub routed-on : (b : List ℕ) → Brings b h p → 0 < to → routed c h p board (routeOf t (c .setup .k) board (h .method) (h .parameter1)) ≡ moved (Keeping (ForwardDue to board)) b c
+    routed-on b brought l = rw (← goes) (sym (choose-yes _ _ _ _ (lt-ltb 0 to l) (keeps-brought c (ForwardDue to board) b h p brought)))
+
+    pub routed-off : to ≤ 0 → routed c h p board (routeOf t (c .setup .k) board (h .method) (h .parameter1)) ≡ withPhase c Resting
+    routed-off l = rw (← goes) (sym (choose-no _ _ _ _ (le-ltb 0 to l) refl))
+
+-- all that is neither an ACK nor refused is acknowledged
+pub acknowledges : (k : Hearing) → OneOf (1 ∷ 2 ∷ 3 ∷ 4 ∷ []) (tagOf hearings.the-type k) → isAcknowledged k ≡ true
+acknowledges Ack i = absurd (miss (1 ∷ 2 ∷ 3 ∷ 4 ∷ []) 0 tt i)
+acknowledges Echo i = refl
+acknowledges Deliver i = refl
+acknowledges Route i = refl
+acknowledges Response i = refl
+acknowledges (NotTaken r) i = absurd (miss (1 ∷ 2 ∷ 3 ∷ 4 ∷ []) 5 tt i)
+
+-- of what is acknowledged the list's echo alone is neither delivered, routed nor returned
+pub follows-echo : (k : Hearing) (e : Exchange) (board requester : ℕ) (c : Coordinator) (t : List Node) (h : Header) (p : List ℕ) (room : ℕ) → OneOf (0 ∷ 1 ∷ 5 ∷ []) (tagOf hearings.the-type k) → isAcknowledged k ≡ true → takenAs k e board requester c t h p room ≡ acking c t board room transmits (withPhase c Resting)
+follows-echo Ack e board requester c t h p room i a = absurd (false≢true a)
+follows-echo Echo e board requester c t h p room i a = refl
+follows-echo Deliver e board requester c t h p room i a = absurd (miss (0 ∷ 1 ∷ 5 ∷ []) 2 tt i)
+follows-echo Route e board requester c t h p room i a = absurd (miss (0 ∷ 1 ∷ 5 ∷ []) 3 tt i)
+follows-echo Response e board requester c t h p room i a = absurd (miss (0 ∷ 1 ∷ 5 ∷ []) 4 tt i)
+follows-echo (NotTaken r) e board requester c t h p room i a = absurd (false≢true a)
 
 -- in every part but search the source awaited is the address at stake
 pub source-at-stake : (part : Part) (s : Setup) (position : ℕ) → OneOf (1 ∷ 2 ∷ 3 ∷ 4 ∷ 5 ∷ []) (tagOf parts.the-type part) → sourceIn part s position ≡ address s position
@@ -96,27 +176,35 @@ source-at-stake Present s position k = refl
 source-at-stake AssignDue s position k = refl
 source-at-stake Assign s position k = refl
 
--- the source is tested against the address of the board, or against what the part awaits
-module _ (s : Setup) (source : ℕ) where
-  pub board-tested : (e : Exchange) (board requester : ℕ) (a : Bool) {n : ℕ} → n ≡ address s board → not (awaits (Awaiting board e requester a) s source) ≡ not (eqb source n)
-  board-tested e board requester a q = rw q refl
+-- of what is kept a stray asks for the head alone
+answers-bare : (w : Phase) (m : Kept) (message : ℕ) → answersForward w (bare (headOf m)) message ≡ answersForward w m message
+answers-bare Resting m message = refl
+answers-bare (Awaiting board Offer requester a) m message = refl
+answers-bare (Awaiting board Listing requester a) m message = refl
+answers-bare (Awaiting board Forward requester a) m message = refl
+answers-bare (Awaiting board Return requester a) m message = refl
+answers-bare (ForwardDue board requester) m message = refl
+answers-bare (ReturnDue board) m message = refl
+answers-bare (Seeking position part) m message = refl
+answers-bare Unknown m message = refl
 
-  pub part-tested : (part : Part) (position : ℕ) {w : Bool} {n : ℕ} → w ≡ isWaiting part → n ≡ sourceIn part s position → not (awaits (Seeking position part) s source) ≡ not (w && eqb source n)
-  part-tested part position e q = rw (e, q) refl
-
-module _ (c : Coordinator) (t : List Node) (h : Header) (p : List ℕ) (room : ℕ) where
+module _ {seen : Seen} {c : Coordinator} {t : List Node} (s : Saw seen c t) (h : Header) (p : List ℕ) (room : ℕ) where
   -- a frame in a wait: 6 from another source
   module _ (w : Phase) where
-    pub waited-other : not (awaits w (c .setup) (h .source)) ≡ true → waited w c t h p room ≡ refused c t NotAwaited
+    pub waited-other : not (awaits w (seen .setup) (h .source)) ≡ true → waited w c t h p room ≡ refused c t NotAwaited
     unfolding waited
-    waited-other k = sym (choose-yes _ _ _ _ k refl)
+    waited-other k = sym (choose-yes _ _ _ _ (rw (s .setup) at k) refl)
 
-    pub waited-taken : not (awaits w (c .setup) (h .source)) ≡ false → waited w c t h p room ≡ takenIn w c t h p room
+    pub waited-taken : not (awaits w (seen .setup) (h .source)) ≡ false → waited w c t h p room ≡ takenIn w c t h p room
     unfolding waited
-    waited-taken k = sym (choose-no _ _ _ _ k refl)
+    waited-taken k = sym (choose-no _ _ _ _ (rw (s .setup) at k) refl)
+
+  -- what a frame from the board gets, by what it is to the wait
+  pub waited-heard : (e : Exchange) (board requester : ℕ) (a : Bool) {n : ℕ} {k : Hearing} → n ≡ address (seen .setup) board → h .source ≡ n → k ≡ heardIn e board a c t h p → waited (Awaiting board e requester a) c t h p room ≡ takenAs k e board requester c t h p room
+  waited-heard e board requester a q from k = waited-taken (Awaiting board e requester a) (not-no _ (eq-eqb _ _ (from ∙ q))) ∙ ap (λ (x : Hearing). takenAs x e board requester c t h p room) (sym k)
 
   -- nothing is waited for in the other phases
-  waited-idle : (w : Phase) → OneOf (0 ∷ 2 ∷ 3 ∷ 5 ∷ []) (tagOf phase.the-type w) → waited w c t h p room ≡ refused c t NotAwaited
+  pub waited-idle : (w : Phase) → OneOf (0 ∷ 2 ∷ 3 ∷ 5 ∷ []) (tagOf phase.the-type w) → waited w c t h p room ≡ refused c t NotAwaited
   waited-idle Resting k = waited-other Resting refl
   waited-idle (Awaiting board e requester a) k = absurd (miss (0 ∷ 2 ∷ 3 ∷ 5 ∷ []) 1 tt k)
   waited-idle (ForwardDue board requester) k = waited-other (ForwardDue board requester) refl
@@ -125,57 +213,56 @@ module _ (c : Coordinator) (t : List Node) (h : Header) (p : List ℕ) (room : �
   waited-idle Unknown k = waited-other Unknown refl
 
   -- a good frame: 5 where it is not for us
-  pub listened-not-ours : (w : Phase) → (h .destination ≡ 255 → ⊥) → listened w c t h p room ≡ refused c t NotForUs
+  pub listened-not-ours : (h .destination ≡ 255 → ⊥) → listened (phaseOf (c .stand)) c t h p room ≡ refused c t NotForUs
   unfolding listened
-  listened-not-ours w ne = sym (choose-yes _ _ _ _ (not-yes _ (ne-eqb _ _ ne)) refl)
+  listened-not-ours ne = sym (choose-yes _ _ _ _ (not-yes _ (ne-eqb _ _ ne)) refl)
 
-  -- then 23 where it is a stray, and 6 where nothing is waited for; else what the wait gets
-  module _ (ours : h .destination ≡ 255) {v w : Phase} (given : v ≡ w) {s : Bool} (test : s ≡ isStray v (c .kept) (h .message)) where
-    stray : isStray w (c .kept) (h .message) ≡ s
-    stray = ap (λ (x : Phase). isStray x (c .kept) (h .message)) (sym given) ∙ sym test
+  -- then 23 where it is a stray; else what the wait gets
+  module _ (ours : h .destination ≡ 255) {w : Phase} (phased : w ≡ phaseOf (seen .state .stand)) {b : Bool} (test : b ≡ isStray w (bare (seen .state .head)) (h .message)) where
+    now-in : w ≡ phaseOf (c .stand)
+    now-in = rw (s .state) at phased
 
-    pub listened-stray : s ≡ true → listened w c t h p room ≡ refused c t NotDiscovering
+    stray : isStray (phaseOf (c .stand)) (c .kept) (h .message) ≡ b
+    stray = rw (← now-in) (sym (test ∙ rw (s .state, answers-bare w (c .kept) (h .message)) refl))
+
+    pub listened-stray : b ≡ true → listened (phaseOf (c .stand)) c t h p room ≡ refused c t NotDiscovering
     unfolding listened
     listened-stray k = sym (choose-no _ _ _ _ (not-no _ (eq-eqb _ _ ours)) (choose-yes _ _ _ _ (stray ∙ k) refl))
 
-    module _ (k : s ≡ false) where
-      pub listened-waited : {x : Phase} → v ≡ x → listened w c t h p room ≡ waited x c t h p room
-      unfolding listened
-      listened-waited known = sym (choose-no _ _ _ _ (not-no _ (eq-eqb _ _ ours)) (choose-no _ _ _ _ (stray ∙ k) refl)) ∙ ap (λ (x : Phase). waited x c t h p room) (sym given ∙ known)
+    pub listened-waited : b ≡ false → listened (phaseOf (c .stand)) c t h p room ≡ waited w c t h p room
+    unfolding listened
+    listened-waited k = sym (choose-no _ _ _ _ (not-no _ (eq-eqb _ _ ours)) (choose-no _ _ _ _ (stray ∙ k) refl)) ∙ ap (λ (x : Phase). waited x c t h p room) (sym now-in)
 
-      pub listened-idle : OneOf (0 ∷ 2 ∷ 3 ∷ 5 ∷ []) (tagOf phase.the-type v) → listened w c t h p room ≡ refused c t NotAwaited
-      listened-idle i = listened-waited refl ∙ waited-idle v i
+-- the record of the board that the stand names is that of the board that is waited for
+pub node-named : (c : Coordinator) (t : List Node) {w : Phase} {n : Node} {board requester : ℕ} {e : Exchange} {a : Bool} → w ≡ phaseOf (c .stand) → w ≡ Awaiting board e requester a → n ≡ at t (c .stand .board) → n ≡ at t board
+node-named c t h known e = e ∙ ap (at t) (sym (waited-board (c .stand) (sym h ∙ known)))
 
-module _ (c : Coordinator) (t : List Node) (b : List ℕ) (room : ℕ) {f : Bool} (fit : f ≡ fits c t) where
-  -- 22 comes first
-  pub received-unfit : not f ≡ true → receiveOf c t b room ≡ refused c t StateUnfit
-  unfolding receiveIn
-  received-unfit h = sym (choose-yes _ _ _ _ (ap not (sym fit) ∙ h) refl)
+-- bytes received, of a coordinator and records that are fit
+module _ {seen : Seen} {c : Coordinator} {t : List Node} (s : Saw seen c t) (b : List ℕ) (room : ℕ) {r : Reading} (e : told-read r ≡ reading b) where
+  -- the reader's refusals come first
+  pub received-unread : {q : Refusal} → r ≡ NotRead q → receiveOf c t b room ≡ refused c t q
+  unfolding receiveIn reading
+  received-unread {q} n = sym (choose-no _ _ _ _ (not-no _ (s .fit)) (sym (refused-for (readRules b) (fields (headerOf b) ++ lengthByte b ∷ []) (refused c t) _ q (sym e ∙ ap told-read n))))
 
-  module _ (h : not f ≡ false) {r : Reading} (e : told r ≡ reading b) where
-    -- then the reader's refusals
-    pub received-unread : {q : Refusal} → r ≡ NotRead q → receiveOf c t b room ≡ refused c t q
-    unfolding receiveIn reading
-    received-unread {q} n = sym (choose-no _ _ _ _ (ap not (sym fit) ∙ h) (sym (refused-for (readRules b) (fields (headerOf b) ++ lengthByte b ∷ []) (refused c t) _ q (sym e ∙ ap told n))))
+  -- then what a good frame gets
+  pub received-read : {g : Header} {n : ℕ} → r ≡ Frame g n → receiveOf c t b room ≡ listened (phaseOf (c .stand)) c t g (payload b) room
+  unfolding receiveIn reading listened waited
+  received-read {g} {n} w =
+      sym (choose-no _ _ _ _ (not-no _ (s .fit)) (sym (passed (readRules b) (refused c t) _ ok)))
+      ∙ ap (λ (x : Header). listened (phaseOf (c .stand)) c t x (payload b) room) (sym (read-frame b w e .header))
+    where
+      ok : Passed (readRules b)
+      ok = gave (readRules b) (fields (headerOf b) ++ lengthByte b ∷ []) (fields g ++ n ∷ []) (sym e ∙ ap told-read w) .0
 
-    -- then what a good frame gets
-    pub received-read : {g : Header} {n : ℕ} → r ≡ Frame g n → receiveOf c t b room ≡ listened (phaseOf (c .stand)) c t g (payloadOf b) room
-    unfolding receiveIn reading listened waited payloadOf
-    received-read {g} {n} w =
-        sym (choose-no _ _ _ _ (ap not (sym fit) ∙ h) (sym (passed (readRules b) (refused c t) _ ok)))
-        ∙ ap (λ (x : Header). listened (phaseOf (c .stand)) c t x (payload b) room) (sym (read-frame b w e .header))
-        ∙ ap (λ (x : List ℕ). listened (phaseOf (c .stand)) c t g x room) (sym (passed (readRules b) (λ q. []) (payload b) ok))
-      where
-        ok : Passed (readRules b)
-        ok = gave (readRules b) (fields (headerOf b) ++ lengthByte b ∷ []) (fields g ++ n ∷ []) (sym e ∙ ap told w) .0
+-- bytes that read well
+module _ {b : List ℕ} {g : Header} {n : ℕ} (read : WellRead b g n) where
+  -- the part from offset 10, as long as was read, is the payload
+  pub part-is : take (10 + n - 10) (drop 10 b) ≡ payload b
+  part-is = ap (λ (m : ℕ). take m (drop 10 b)) (let e : 10 + n - 10 ≡ n = omega arith in e ∙ read .count)
 
--- the part from offset 10, as long as was read, is the payload
-pub part-is : {b : List ℕ} {g : Header} {n : ℕ} → WellRead b g n → take (10 + n - 10) (drop 10 b) ≡ payloadOf b
-part-is {b} {n = n} read = ap (λ (m : ℕ). take m (drop 10 b)) (let e : 10 + n - 10 ≡ n = omega arith in e) ∙ sym (read .part)
-
--- the payload of a frame that was read is not too long to be kept
-pub payload-small : (b : List ℕ) {r : Reading} {g : Header} {n : ℕ} {p : List ℕ} → told r ≡ reading b → r ≡ Frame g n → p ≡ payloadOf b → length p ≤ 240
-payload-small b {g = g} {n} e w q = rw (q, read .part, length-take) (omega (arith, read .count, read .bytes .small))
-  where
-    read : WellRead b g n
-    read = read-frame b w e
+  -- they bring their header and their payload
+  pub brings-read : Brings b g (payload b)
+  brings-read = (sym (choose-no _ _ _ _ (le-ltb (length b) 10 (omega (arith, read .bytes .long))) (rw (read .header, payload-long) refl)), keeps-whole b (read .bytes .small))
+    where
+      payload-long : length (payload b) ≡ lengthByte b
+      payload-long = length-take-le (lengthByte b) (drop 10 b) (rw (length-drop 10 b) (omega (arith, read .bytes .long)))

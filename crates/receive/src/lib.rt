@@ -1,109 +1,54 @@
 // The step of bytes received: which frame a wait takes, and what the panel does on it.
 use accept::Heard;
-use board::Table;
-use coordinator::Coordinator;
+use board::Node;
+use change::Change;
+use change::Edit;
+use change::Move;
 use coordinator::Exchange;
-use coordinator::Kept;
+use coordinator::Head;
 use coordinator::Part;
 use coordinator::Phase;
 use frame::Header;
 use frame::Reading;
 use frame::Writing;
+use look::Seen;
 use refusal::Refusal;
 use setup::Setup;
 use steps::Answer;
-use steps::Stepped;
 ghost use mathlib.Core.Path.{_≡_};
-ghost use Prim.Native.Nat.{_≤_};
-ghost use lib.ListN.{length, replicate};
-ghost use Rattle.ground.specs.Bytes.{laid};
+ghost use mathlib.Core.Bool.{true};
+ghost use lib.ListN.{length};
+ghost use Rattle.board.specs.Table.{at};
+ghost use Rattle.board.specs.Columns.{kindsOf};
 ghost use Rattle.coordinator.specs.Phase.{phaseOf};
-ghost use Rattle.steps.specs.After.{told, shown, shows, Leaves};
-ghost use Rattle.steps.specs.Receive.{keptOf, hearAck, acked, acking, routed, isSeeking, answersForward, isStray, heardIn, takenAs, receiveOf};
-ghost use Rattle.steps.specs.Hear.{hear};
+ghost use Rattle.coordinator.specs.State.{bare};
+ghost use Rattle.look.specs.Seen.{OfColumns};
+ghost use Rattle.steps.specs.Receive.{isSeeking, answersForward, isStray, takenAs, receiveOf};
 ghost use Rattle.steps.specs.Seek.{sourceIn};
-ghost use Rattle.receive.specs.Parts.{waited, listened};
+ghost use Rattle.change.specs.Decides.{Takes, Decides};
+ghost use Rattle.receive.specs.Parts.{hearing, Acknowledges, Acks, Hears, isAcknowledged, Follows, TakesFrame, waited, listened};
 
-// The payload as it is kept: the bytes, and zeros past them.
-fn payload_of(payload: &[u8]) -> [u8; 240]
-    requires { ⌜ length (now payload) ≤ 240 ⌝ }
-    ensures { λ r. ⌜ r ≡ laid (now (payload .entry)) (replicate 240 0) ⌝ }
+// A board's ACK is heard. Another session than the one on record replaces it, and all are owed the list.
+fn hearing(moves: Move, board: usize, node: Node, session: u64, answer: Answer) -> Change
+    ensures { λ r. ⌜ r ≡ hearing moves board node session answer ⌝ }
 {
-    let mut kept = [0u8; 240];
-    let mut i: usize = 0;
-    while i < payload.len() {
-        kept[i] = payload[i];
-        i += 1;
-    }
-    kept
-}
-
-// The message to carry.
-fn kept_of(header: Header, payload: &[u8]) -> Kept
-    requires { ⌜ length (now payload) ≤ 240 ⌝ }
-    ensures { λ r. ⌜ r ≡ keptOf header (now (payload .entry)) ⌝ }
-{
-    Kept {
-        message: header.message,
-        packet: header.packet,
-        kind: header.kind,
-        method: header.method,
-        parameter: header.parameter1,
-        length: payload.len(),
-        payload: payload_of(payload),
-    }
-}
-
-// The table once a board was heard.
-fn hear(table: Table, board: usize) -> Table
-    ensures { λ r. ⌜ r .nodes ≡ hear (table .nodes) board ⌝ }
-{
-    board::put_at(table, board, board::heard(board::record_at(table, board)))
-}
-
-// The table once a board's ACK was heard: another session replaces the one on record, and all are owed the list.
-fn hear_ack(table: Table, board: usize, session: u64) -> Table
-    ensures { λ r. ⌜ r .nodes ≡ hearAck (table .nodes) board session ⌝ }
-{
-    let node = board::record_at(table, board);
-    let heard = board::put_at(table, board, board::renewed(board::heard(node), session));
     if session == node.session {
-        return heard;
+        return change::changing(moves, board, Edit::Heard, answer, 0);
     }
-    board::owe_all(heard)
+    let mut renewed = change::changing(moves, board, Edit::Renewed(session), answer, 0);
+    renewed.owe = true;
+    renewed
 }
 
-// Where a request goes on: kept for its board, or discarded where there is none.
-fn routed(
-    coordinator: Coordinator,
-    header: Header,
-    payload: &[u8],
-    board: usize,
-    to: usize,
-) -> Coordinator
-    requires { ⌜ length (now payload) ≤ 240 ⌝ }
-    ensures { λ r. ⌜ r ≡ routed coordinator header (now (payload .entry)) board to ⌝ }
-{
-    if 0 < to {
-        let kept = coordinator::keeping(coordinator, kept_of(header, payload));
-        let phase = Phase::ForwardDue {
-            board: to,
-            requester: board,
-        };
-        return coordinator::with_phase(kept, phase);
-    }
-    coordinator::with_phase(coordinator, Phase::Resting)
-}
-
-// What an accepted ACK does, where the table has it heard: it ends its wait, except after a forward.
+// What an accepted ACK does: it ends its wait, except after a forward.
 fn acknowledged(
-    coordinator: Coordinator,
-    table: Table,
+    node: Node,
     exchange: Exchange,
     board: usize,
     requester: usize,
-) -> Stepped
-    ensures { λ r. ⌜ shown r ≡ shows (acked exchange board requester coordinator (table .nodes)) ⌝ }
+    session: u64,
+) -> Change
+    ensures { λ r. ⌜ Acknowledges node exchange board requester session r ⌝ }
 {
     match exchange {
         Exchange::Forward => {
@@ -113,63 +58,105 @@ fn acknowledged(
                 requester: requester,
                 acked: true,
             };
-            let waiting = coordinator::with_phase(coordinator, phase);
-            steps::leaving(waiting, table, Answer::Wait(board, exchange), 0, 0, 0)
+            let waits = Answer::Wait(board, exchange);
+            hearing(Move::To(phase), board, node, session, waits)
         }
-        _ => {
-            let rested = coordinator::with_phase(coordinator, Phase::Resting);
-            steps::resting(rested, table, 0, 0)
-        }
+        _ => hearing(Move::To(Phase::Resting), board, node, session, Answer::Rest),
     }
 }
 
-// Writes the ACK due to the sender; where there is room for it the board is heard, and the coordinator as it is after.
+// Writes the ACK due to the sender; where there is room for it the board is heard, and the coordinator moves.
 fn acking(
-    coordinator: Coordinator,
-    table: Table,
+    seen: Seen,
+    kinds: &[u8; 40],
     board: usize,
     answer: Answer,
-    after: Coordinator,
+    after: Move,
     out: &mut [u8],
-) -> Stepped
-    ensures { λ r. ⌜ Leaves (acking coordinator (table .nodes) board (length (now (out .entry))) (told answer) after) r (now (out .entry)) (now (out .exit)) ⌝ }
+) -> Change
+    ensures { λ r. ⌜ Acks seen (now (kinds .entry)) board answer after r (now (out .entry)) (now (out .exit)) ⌝ }
 {
-    match message::write_signed(coordinator.setup, table, board, 6, out) {
-        Writing::Written(n) => steps::leaving(after, hear(table, board), answer, n, 0, 0),
-        Writing::Refused(refusal) => steps::refusing(coordinator, table, refusal),
+    match message::write_signed(seen.setup, kinds, board, 6, out) {
+        Writing::Written(n) => change::changing(after, board, Edit::Heard, answer, n),
+        Writing::Refused(refusal) => change::refusing(refusal),
     }
 }
 
-// What a frame is to the wait that is on.
+// What a frame is to the wait that is on. The node is the record of the board that is waited for.
 fn heard_in(
-    coordinator: Coordinator,
-    table: Table,
-    board: usize,
+    seen: Seen,
+    node: Node,
+    kinds: &[u8; 40],
     exchange: Exchange,
     acked: bool,
     header: Header,
     payload: &[u8],
 ) -> Heard
-    ensures { λ r. ⌜ r ≡ heardIn exchange board acked coordinator (table .nodes) header (now (payload .entry)) ⌝ }
+    ensures { λ r. ⌜ Hears seen (now (kinds .entry)) node exchange acked header (now (payload .entry)) r ⌝ }
 {
-    let node = board::record_at(table, board);
     let ack = accept::is_ack(payload, node.mac);
     let message = header.message;
     match exchange {
         Exchange::Offer => accept::after_offer(message, header.method, ack),
         Exchange::List => {
-            let internal = coordinator.setup.internal;
-            accept::after_list(message, nodelist::same_list(internal, table, payload))
+            let internal = seen.setup.internal;
+            accept::after_list(
+                message,
+                nodelist::same_list(internal, kinds, seen.top, payload),
+            )
         }
-        Exchange::Forward => accept::after_forward(message, coordinator.kept.message, ack, acked),
+        Exchange::Forward => accept::after_forward(message, seen.state.head.message, ack, acked),
         Exchange::Return => accept::after_return(message, ack),
+    }
+}
+
+// What follows a frame once its sender is acknowledged: the answer, and what becomes of the coordinator.
+struct Next {
+    answer: Answer,
+    moves: Move,
+}
+
+// What follows a frame whose sender is acknowledged. A request that goes on is kept for its board, or discarded where
+// there is none; the response to a forward is kept for the board that asked.
+fn following(
+    heard: Heard,
+    seen: Seen,
+    kinds: &[u8; 40],
+    board: usize,
+    requester: usize,
+    header: Header,
+) -> Next
+    requires { ⌜ isAcknowledged heard ≡ true ⌝ }
+    ensures { λ r. ⌜ Follows heard seen (now (kinds .entry)) board requester header r ⌝ }
+{
+    let mut answer = Answer::Transmit;
+    let mut moves = Move::To(Phase::Resting);
+    match heard {
+        Heard::Deliver => answer = Answer::Deliver,
+        Heard::Route => {
+            let to = routing::route(kinds, seen.setup.k, board, header.method, header.parameter1);
+            if 0 < to {
+                let phase = Phase::ForwardDue {
+                    board: to,
+                    requester: board,
+                };
+                moves = Move::Keeping(phase);
+            }
+        }
+        Heard::Answer => moves = Move::Keeping(Phase::ReturnDue { board: requester }),
+        _ => {}
+    }
+    Next {
+        answer: answer,
+        moves: moves,
     }
 }
 
 // What the panel does on a frame, by what the frame is to the wait.
 fn taken(
-    coordinator: Coordinator,
-    table: Table,
+    seen: Seen,
+    node: Node,
+    kinds: &[u8; 40],
     heard: Heard,
     exchange: Exchange,
     board: usize,
@@ -177,38 +164,28 @@ fn taken(
     header: Header,
     payload: &[u8],
     out: &mut [u8],
-) -> Stepped
-    requires { ⌜ length (now payload) ≤ 240 ⌝ }
-    ensures { λ r. ⌜ Leaves (takenAs heard exchange board requester coordinator (table .nodes) header (now (payload .entry)) (length (now (out .entry)))) r (now (out .entry)) (now (out .exit)) ⌝ }
+) -> Change
+    ensures { λ r. ⌜ TakesFrame seen (λ c t. (now (kinds .entry) ≡ kindsOf t) × (node ≡ at t board)) header (now (payload .entry)) (λ c t. takenAs heard exchange board requester c t header (now (payload .entry)) (length (now (out .entry)))) r (now (out .entry)) (now (out .exit)) ⌝ }
 {
-    let rested = coordinator::with_phase(coordinator, Phase::Resting);
     match heard {
         Heard::Ack => {
-            let heard_table = hear_ack(table, board, accept::ack_session(payload));
-            acknowledged(coordinator, heard_table, exchange, board, requester)
+            let session = accept::ack_session(payload);
+            acknowledged(node, exchange, board, requester, session)
         }
-        Heard::Echo => acking(coordinator, table, board, Answer::Transmit, rested, out),
-        Heard::Deliver => acking(coordinator, table, board, Answer::Deliver, rested, out),
-        Heard::Route => {
-            let k = coordinator.setup.k;
-            let to = routing::route(table, k, board, header.method, header.parameter1);
-            let after = routed(coordinator, header, payload, board, to);
-            acking(coordinator, table, board, Answer::Transmit, after, out)
+        Heard::Refused(refusal) => change::refusing(refusal),
+        _ => {
+            let next = following(heard, seen, kinds, board, requester, header);
+            let Next { answer, moves } = next;
+            acking(seen, kinds, board, answer, moves, out)
         }
-        Heard::Answer => {
-            let kept = coordinator::keeping(coordinator, kept_of(header, payload));
-            let after = coordinator::with_phase(kept, Phase::ReturnDue { board: requester });
-            acking(coordinator, table, board, Answer::Transmit, after, out)
-        }
-        Heard::Refused(refusal) => steps::refusing(coordinator, table, refusal),
     }
 }
 
-// A frame that comes in the wait for a board; one from another source leaves the wait as it is. Most are ACKs, which are
-// seen to at once: their way is then the shortest.
+// A frame that comes in the wait for a board, whose record is the node; one from another source leaves the wait as it is.
 fn awaited(
-    coordinator: Coordinator,
-    table: Table,
+    seen: Seen,
+    node: Node,
+    kinds: &[u8; 40],
     exchange: Exchange,
     board: usize,
     requester: usize,
@@ -216,21 +193,17 @@ fn awaited(
     header: Header,
     payload: &[u8],
     out: &mut [u8],
-) -> Stepped
-    requires { ⌜ length (now payload) ≤ 240 ⌝ }
-    ensures { λ r. ⌜ Leaves (waited (Phase.Awaiting board exchange requester acked) coordinator (table .nodes) header (now (payload .entry)) (length (now (out .entry)))) r (now (out .entry)) (now (out .exit)) ⌝ }
+) -> Change
+    ensures { λ r. ⌜ TakesFrame seen (λ c t. (now (kinds .entry) ≡ kindsOf t) × (node ≡ at t board)) header (now (payload .entry)) (λ c t. waited (Phase.Awaiting board exchange requester acked) c t header (now (payload .entry)) (length (now (out .entry)))) r (now (out .entry)) (now (out .exit)) ⌝ }
 {
-    if header.source != setup::address_at(coordinator.setup, board) {
-        return steps::refusing(coordinator, table, Refusal::NotAwaited);
+    if header.source != setup::address_at(seen.setup, board) {
+        return change::refusing(Refusal::NotAwaited);
     }
-    let heard = heard_in(coordinator, table, board, exchange, acked, header, payload);
-    if let Heard::Ack = heard {
-        let heard_table = hear_ack(table, board, accept::ack_session(payload));
-        return acknowledged(coordinator, heard_table, exchange, board, requester);
-    }
+    let heard = heard_in(seen, node, kinds, exchange, acked, header, payload);
     taken(
-        coordinator,
-        table,
+        seen,
+        node,
+        kinds,
         heard,
         exchange,
         board,
@@ -254,21 +227,33 @@ fn source_in(part: Part, setup: Setup, position: usize) -> u8
 // A frame that comes in the exchange by which a board joins; one from another source than its part awaits leaves it as
 // it is.
 fn sought(
-    coordinator: Coordinator,
-    table: Table,
     part: Part,
     position: usize,
+    seen: Seen,
+    kinds: &[u8; 40],
+    marks: &[u8; 40],
+    macs: &[u64; 40],
     header: Header,
     payload: &[u8],
     out: &mut [u8],
-) -> Stepped
-    ensures { λ r. ⌜ Leaves (waited (Phase.Seeking position part) coordinator (table .nodes) header (now (payload .entry)) (length (now (out .entry)))) r (now (out .entry)) (now (out .exit)) ⌝ }
+) -> Change
+    ensures { λ r. ⌜ Decides seen (OfColumns (now (kinds .entry)) (now (marks .entry)) (now (macs .entry))) (λ c t. waited (Phase.Seeking position part) c t header (now (payload .entry)) (length (now (out .entry)))) r (now (out .entry)) (now (out .exit)) ⌝ }
 {
-    let source = source_in(part, coordinator.setup, position);
+    let source = source_in(part, seen.setup, position);
     if !(steps::is_waiting(part) & (header.source == source)) {
-        return steps::refusing(coordinator, table, Refusal::NotAwaited);
+        return change::refusing(Refusal::NotAwaited);
     }
-    seek::sought(part, position, coordinator, table, header, payload, out)
+    seek::sought(
+        part,
+        position,
+        seen,
+        kinds,
+        marks,
+        macs,
+        header,
+        payload,
+        out,
+    )
 }
 
 // Whether an exchange by which a board joins runs.
@@ -297,8 +282,8 @@ fn is_seeking(phase: Phase) -> bool
 }
 
 // Whether the forward now awaited is of the request that a message of this type answers.
-fn answers_forward(phase: Phase, kept: Kept, message: u8) -> bool
-    ensures { λ r. ⌜ r ≡ answersForward phase kept message ⌝ }
+fn answers_forward(phase: Phase, head: Head, message: u8) -> bool
+    ensures { λ r. ⌜ r ≡ answersForward phase (bare head) message ⌝ }
 {
     match phase {
         Phase::Resting => false,
@@ -310,7 +295,7 @@ fn answers_forward(phase: Phase, kept: Kept, message: u8) -> bool
         } => match exchange {
             Exchange::Offer => false,
             Exchange::List => false,
-            Exchange::Forward => message as u16 == kept.message as u16 + 128,
+            Exchange::Forward => message as u16 == head.message as u16 + 128,
             Exchange::Return => false,
         },
         Phase::ForwardDue {
@@ -328,31 +313,28 @@ fn answers_forward(phase: Phase, kept: Kept, message: u8) -> bool
 
 // Whether a message is a response of the exchange by which a board joins, none runs, and no forward of the request that
 // it answers is awaited.
-fn is_stray(phase: Phase, kept: Kept, message: u8) -> bool
-    ensures { λ r. ⌜ r ≡ isStray phase kept message ⌝ }
+fn is_stray(phase: Phase, head: Head, message: u8) -> bool
+    ensures { λ r. ⌜ r ≡ isStray phase (bare head) message ⌝ }
 {
     let reply = (0xF9 <= message) & (message <= 0xFB);
-    reply & !is_seeking(phase) & !answers_forward(phase, kept, message)
+    reply & !is_seeking(phase) & !answers_forward(phase, head, message)
 }
 
-// A good frame: it has to be for us, no stray, and in a wait.
-fn listened(
-    coordinator: Coordinator,
-    table: Table,
+// A good frame for us that is no stray: it has to come in a wait. The node is the record of the board that the stand
+// names.
+fn waited(
+    seen: Seen,
+    node: Node,
+    kinds: &[u8; 40],
+    marks: &[u8; 40],
+    macs: &[u64; 40],
+    phase: Phase,
     header: Header,
     payload: &[u8],
     out: &mut [u8],
-) -> Stepped
-    requires { ⌜ length (now payload) ≤ 240 ⌝ }
-    ensures { λ r. ⌜ Leaves (listened (phaseOf (coordinator .stand)) coordinator (table .nodes) header (now (payload .entry)) (length (now (out .entry)))) r (now (out .entry)) (now (out .exit)) ⌝ }
+) -> Change
+    ensures { λ r. ⌜ TakesFrame seen (λ c t. OfColumns (now (kinds .entry)) (now (marks .entry)) (now (macs .entry)) c t × ((node ≡ at t (c .stand .board)) × (phase ≡ phaseOf (c .stand)))) header (now (payload .entry)) (λ c t. waited phase c t header (now (payload .entry)) (length (now (out .entry)))) r (now (out .entry)) (now (out .exit)) ⌝ }
 {
-    if header.destination != 255 {
-        return steps::refusing(coordinator, table, Refusal::NotForUs);
-    }
-    let phase = coordinator::phase_of(coordinator.stand);
-    if is_stray(phase, coordinator.kept, header.message) {
-        return steps::refusing(coordinator, table, Refusal::NotDiscovering);
-    }
     match phase {
         Phase::Awaiting {
             board,
@@ -360,8 +342,9 @@ fn listened(
             requester,
             acked,
         } => awaited(
-            coordinator,
-            table,
+            seen,
+            node,
+            kinds,
             exchange,
             board,
             requester,
@@ -370,25 +353,63 @@ fn listened(
             payload,
             out,
         ),
-        Phase::Seeking { position, part } => {
-            sought(coordinator, table, part, position, header, payload, out)
+        Phase::Seeking { position: at, part } => {
+            sought(part, at, seen, kinds, marks, macs, header, payload, out)
         }
-        _ => steps::refusing(coordinator, table, Refusal::NotAwaited),
+        _ => change::refusing(Refusal::NotAwaited),
     }
 }
 
-// The step of bytes received.
-pub fn receive(coordinator: Coordinator, table: Table, received: &[u8], out: &mut [u8]) -> Stepped
-    ensures { λ r. ⌜ (shown r ≡ shows (receiveOf coordinator (table .nodes) (now (received .entry)) (length (now (out .entry))))) × (now (out .exit) ≡ laid (receiveOf coordinator (table .nodes) (now (received .entry)) (length (now (out .entry))) .bytes) (now (out .entry))) ⌝ }
+// A good frame: it has to be for us, no stray, and in a wait. The node is the record of the board that the stand names.
+fn listened(
+    seen: Seen,
+    node: Node,
+    kinds: &[u8; 40],
+    marks: &[u8; 40],
+    macs: &[u64; 40],
+    header: Header,
+    payload: &[u8],
+    out: &mut [u8],
+) -> Change
+    ensures { λ r. ⌜ TakesFrame seen (λ c t. OfColumns (now (kinds .entry)) (now (marks .entry)) (now (macs .entry)) c t × (node ≡ at t (c .stand .board))) header (now (payload .entry)) (λ c t. listened (phaseOf (c .stand)) c t header (now (payload .entry)) (length (now (out .entry)))) r (now (out .entry)) (now (out .exit)) ⌝ }
 {
-    if !coordinator::fits(coordinator, table) {
-        return steps::refusing(coordinator, table, Refusal::StateUnfit);
+    if header.destination != 255 {
+        return change::refusing(Refusal::NotForUs);
     }
+    let phase = coordinator::phase_of(seen.state.stand);
+    if is_stray(phase, seen.state.head, header.message) {
+        return change::refusing(Refusal::NotDiscovering);
+    }
+    waited(seen, node, kinds, marks, macs, phase, header, payload, out)
+}
+
+// The step of bytes received, of a coordinator and records that are fit. The node is the record of the board that the
+// stand names.
+pub fn receive(
+    seen: Seen,
+    node: Node,
+    kinds: &[u8; 40],
+    marks: &[u8; 40],
+    macs: &[u64; 40],
+    received: &[u8],
+    out: &mut [u8],
+) -> Change
+    ensures { λ r. ⌜ Takes seen (λ c t. OfColumns (now (kinds .entry)) (now (marks .entry)) (now (macs .entry)) c t × (node ≡ at t (c .stand .board))) (now (received .entry)) (λ c t. receiveOf c t (now (received .entry)) (length (now (out .entry)))) r (now (out .entry)) (now (out .exit)) ⌝ }
+{
     match frame::read(received) {
         Reading::Frame(header, n) => {
             let end = 10 + n;
-            listened(coordinator, table, header, &received[10..end], out)
+            listened(
+                seen,
+                node,
+                kinds,
+                marks,
+                macs,
+                header,
+                &received[10..end],
+                out,
+            )
         }
-        Reading::Refused(refusal) => steps::refusing(coordinator, table, refusal),
+        Reading::Refused(refusal) => change::refusing(refusal),
     }
 }

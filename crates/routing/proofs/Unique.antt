@@ -3,5 +3,5 @@ use mathlib.Core.Path.{_≡_, sym, _∙_}
 use Prim.Native.Nat.{ℕ}
 use Rattle.routing.proofs.route.Reads as route
 
-pub unique-route : (a s t : _) (r q : ℕ) → route.Post tt a r s → route.Post tt a q t → r ≡ q
-unique-route a s t r q p p′ = p ∙ sym p′
+pub unique-route : (κs a s t : _) (r q : ℕ) → route.Post κs a r s → route.Post κs a q t → r ≡ q
+unique-route κs a s t r q p p′ = p ∙ sym p′

@@ -1,7 +1,7 @@
 // Where a request goes. The send method says how to read parameter 1: as a control command, a node type or a socket.
-use board::Table;
 use board::Wanted;
 ghost use mathlib.Core.Path.{_≡_};
+ghost use Rattle.board.specs.Columns.{typed};
 ghost use Rattle.routing.specs.Priority.{priorityList};
 ghost use Rattle.routing.specs.Route.{priorityKind, atSocket, namedPosition, routeOf};
 
@@ -52,14 +52,14 @@ fn priority_list(code: u8) -> [u8; 5]
 }
 
 // The first type of a control command's priority list of which a board is listed; 0 for none.
-fn priority_kind(table: Table, k: usize, code: u8) -> u8
-    ensures { λ r. ⌜ r ≡ priorityKind (table .nodes) k code ⌝ }
+fn priority_kind(kinds: &[u8; 40], k: usize, code: u8) -> u8
+    ensures { λ r. ⌜ r ≡ priorityKind (typed (now (kinds .entry))) k code ⌝ }
 {
-    let kinds = priority_list(code);
+    let list = priority_list(code);
     let mut i: usize = 0;
     while i < 5 {
-        let kind = kinds[i];
-        if 0 < board::lowest(table, Wanted::Kind(kind), k) {
+        let kind = list[i];
+        if 0 < board::lowest(kinds, Wanted::Kind(kind), k) {
             return kind;
         }
         i += 1;
@@ -68,11 +68,11 @@ fn priority_kind(table: Table, k: usize, code: u8) -> u8
 }
 
 // A socket's position, where a board is listed there; 0 where not.
-fn at_socket(table: Table, k: usize, position: usize) -> usize
-    ensures { λ r. ⌜ r ≡ atSocket (table .nodes) k position ⌝ }
+fn at_socket(kinds: &[u8; 40], k: usize, position: usize) -> usize
+    ensures { λ r. ⌜ r ≡ atSocket (typed (now (kinds .entry))) k position ⌝ }
 {
-    let node = board::record_at(table, position);
-    if (0 < position) & (position <= k) & (node.kind != 0) {
+    let listed = board::listed_at(kinds, position);
+    if (0 < position) & (position <= k) & listed {
         position
     } else {
         0
@@ -80,21 +80,21 @@ fn at_socket(table: Table, k: usize, position: usize) -> usize
 }
 
 // The position that a method and parameter 1 name; 0 for none.
-fn named_position(table: Table, k: usize, method: u8, parameter: u8) -> usize
-    ensures { λ r. ⌜ r ≡ namedPosition (table .nodes) k method parameter ⌝ }
+fn named_position(kinds: &[u8; 40], k: usize, method: u8, parameter: u8) -> usize
+    ensures { λ r. ⌜ r ≡ namedPosition (typed (now (kinds .entry))) k method parameter ⌝ }
 {
     match method {
-        1 => board::lowest(table, Wanted::Kind(priority_kind(table, k, parameter)), k),
-        2 => board::lowest(table, Wanted::Kind(parameter), k),
-        3 => at_socket(table, k, parameter as usize),
+        1 => board::lowest(kinds, Wanted::Kind(priority_kind(kinds, k, parameter)), k),
+        2 => board::lowest(kinds, Wanted::Kind(parameter), k),
+        3 => at_socket(kinds, k, parameter as usize),
         _ => 0,
     }
 }
 
 // Where the request of a sender goes, of k positions; 0 where it is discarded.
-pub fn route(table: Table, k: usize, sender: usize, method: u8, parameter: u8) -> usize
-    ensures { λ r. ⌜ r ≡ routeOf (table .nodes) k sender method parameter ⌝ }
+pub fn route(kinds: &[u8; 40], k: usize, sender: usize, method: u8, parameter: u8) -> usize
+    ensures { λ r. ⌜ r ≡ routeOf (typed (now (kinds .entry))) k sender method parameter ⌝ }
 {
-    let to = named_position(table, k, method, parameter);
+    let to = named_position(kinds, k, method, parameter);
     if to == sender { 0 } else { to }
 }

@@ -11,17 +11,20 @@ use Rattle.ground.proofs.Choices.{choose-yes, choose-no}
 use types.Run.{OneOf, miss}
 use denote.Enum.Declared.{tagOf}
 use Rattle.accept.proofs.Reply as reply
+use Rattle.coordinator.proofs.Part as parts
 use Rattle.accept.specs.declared.Reply.{Reply}
 use Rattle.accept.specs.declared.Reply.the-variants.{Discovered, Present, Identified, Assigned, Refused}
 use Rattle.board.specs.declared.Node.{Node}
 use Rattle.coordinator.specs.declared.Coordinator.{Coordinator}
 use Rattle.coordinator.specs.declared.Found.{Found}
+use Rattle.coordinator.specs.declared.Part.{Part}
+use Rattle.coordinator.specs.declared.Part.the-variants.{Search, IdentifyDue, Identify, Present as Waited, AssignDue, Assign}
 use Rattle.coordinator.specs.Change.{finding, ended}
 use Rattle.steps.specs.declared.Stepped.{Stepped}
 use Rattle.steps.specs.After.{shown, shows, resting, Leaves}
 use Rattle.steps.specs.Hear.{hearMac}
-use Rattle.steps.specs.Seek.{joinFound, answered, outcome, settled, repliedAs}
-use Rattle.seek.specs.Parts.{teller}
+use Rattle.steps.specs.Seek.{joinFound, answered, outcome, settled, repliedAs, quietInSeek}
+use Rattle.seek.specs.Parts.{macPlace, foundAt, teller}
 
 module _ (c : Coordinator) (t : List Node) (f : Found) {n : ℕ} (e : n ≡ joinFound c t f .joined) where
   -- the discovery was answered: by one who could join, or by one who could not
@@ -49,9 +52,18 @@ leaves-answered r o c t f h = (h, ap (λ (b : List ℕ). laid b o) (sym (silent 
     silent false = refl
 
 -- the replies that end the exchange: the other arm of a match on the reply
-pub settles : (x : Reply) (position : ℕ) (c : Coordinator) (t : List Node) (p : List ℕ) (room : ℕ) → OneOf (2 ∷ 3 ∷ []) (tagOf reply.the-type x) → repliedAs x position c t p room ≡ settled c t position (teller x (c .found) p) room
+pub settles : (x : Reply) (position : ℕ) (c : Coordinator) (t : List Node) (p : List ℕ) (room : ℕ) → OneOf (2 ∷ 3 ∷ []) (tagOf reply.the-type x) → repliedAs x position c t p room ≡ settled c t position (teller x (c .found) (foundAt p (macPlace x))) room
 settles Discovered position c t p room k = absurd (miss (2 ∷ 3 ∷ []) 0 tt k)
 settles Present position c t p room k = absurd (miss (2 ∷ 3 ∷ []) 1 tt k)
 settles Identified position c t p room k = refl
 settles Assigned position c t p room k = refl
 settles (Refused r) position c t p room k = absurd (miss (2 ∷ 3 ∷ []) 4 tt k)
+
+-- the parts in which a quiet breaks the exchange off: the other arm of a match on the part
+pub breaks-off : (x : Part) (position : ℕ) (c : Coordinator) (t : List Node) → OneOf (0 ∷ 3 ∷ 5 ∷ []) (tagOf parts.the-type x) → quietInSeek x position c t ≡ resting (ended c) t 0 0
+breaks-off Search position c t k = refl
+breaks-off IdentifyDue position c t k = absurd (miss (0 ∷ 3 ∷ 5 ∷ []) 1 tt k)
+breaks-off Identify position c t k = absurd (miss (0 ∷ 3 ∷ 5 ∷ []) 2 tt k)
+breaks-off Waited position c t k = refl
+breaks-off AssignDue position c t k = absurd (miss (0 ∷ 3 ∷ 5 ∷ []) 4 tt k)
+breaks-off Assign position c t k = refl

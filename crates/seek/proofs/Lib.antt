@@ -1,3 +1,4 @@
+pub mod Seen
 pub mod Discovery
 pub mod Answers
 pub mod Settling

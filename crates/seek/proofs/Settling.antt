@@ -1,33 +1,145 @@
 -- What the ACK to a response leaves that ends the exchange, by what its writing gave.
-use Prim.Native.Nat.{ℕ}
-use mathlib.Core.Path.{_≡_, refl, ap, subst, _∙_}
-use mathlib.Core.List.{List}
-use lib.ListN.{length}
+use Prim.Native.Nat.{ℕ, zero, suc, _-_}
+use native.Mathlib.Omega.{arith}
+use mathlib.Core.Path.{_≡_, refl, sym, ap, _∙_}
+use mathlib.Core.Bool.{Bool, true, false, _&&_}
+use mathlib.Core.List.{List, [], _∷_}
+use lib.Dec.{eqb, leb, ltb}
+use lib.ListN.{length, set, length-set, length-map}
+use lib.Seq.{map-set-same}
+use borrow.Author.Tests.{eqb-false, lt-ltb, le-leb, ltb-true, ltb-false}
+use Rattle.ground.specs.Choose.{choose}
+use Rattle.ground.proofs.Choices.{choose-yes, both}
+use Rattle.refusal.specs.declared.Refusal.{Refusal}
+use Rattle.refusal.proofs.Rules.{Passed, each, by-rules}
 use Rattle.frame.specs.declared.Writing.{Writing}
 use Rattle.frame.specs.declared.Writing.the-variants.{Written, Refused as NotWritten}
 use Rattle.board.specs.declared.Node.{Node}
-use Rattle.message.specs.Message.{signedHeader, signed, ackCode, Sends}
+use Rattle.board.specs.declared.Wanted.the-variants.{Mac}
+use Rattle.board.specs.Node.{none}
+use Rattle.board.specs.Table.{at}
+use Rattle.board.specs.Wanted.{wantedAt}
+use Rattle.board.specs.Change.{joinedNode, heard, oweAll}
+use Rattle.board.specs.Columns.{kindOf, kindsOf, typed}
+use Rattle.board.proofs.Positions.{at-position, put-position, put-zero}
+use Rattle.board.proofs.SameKinds.{kinds-index}
+use Rattle.board.proofs.Columns.{typed-kinds}
+use Rattle.setup.specs.Fitness.{Position}
+use Rattle.message.specs.Message.{ownHeader, signedHeader, signed, ackCode, Sends}
 use Rattle.coordinator.specs.declared.Coordinator.{Coordinator}
 use Rattle.coordinator.specs.declared.Found.{Found}
-use Rattle.steps.specs.declared.Stepped.{Stepped}
-use Rattle.steps.specs.After.{Shown, shown, shows, leaving, refused, transmits, Leaves}
-use Rattle.steps.specs.Seek.{outcome, acknowledged, settled}
+use Rattle.coordinator.specs.Fit.{fits}
+use Rattle.coordinator.specs.Change.{ended}
+use Rattle.coordinator.proofs.Fitting.{fits-forty, fit-told}
+use Rattle.coordinator.proofs.Changing.{ended-fits}
+use Rattle.look.specs.declared.Seen.{Seen}
+use Rattle.look.specs.Seen.{Saw}
+use Rattle.steps.specs.declared.Answer.the-variants.{Transmit}
+use Rattle.steps.specs.After.{After, Shown, shows, leaving, refused, resting, transmits, Leaves}
+use Rattle.steps.specs.Hear.{hear, hearMac}
+use Rattle.steps.specs.Join.{chosen, joinRules, joinedAs, joinOf}
+use Rattle.steps.specs.Seek.{joinFound, outcome, acknowledged, settled}
+use Rattle.steps.proofs.Chosen.{chosen-within}
 use Rattle.steps.proofs.Writes.{shownAs, leaves-ack-written}
+use Rattle.change.proofs.Making.{made}
+use Rattle.change.specs.declared.Change.{Change}
+use Rattle.change.specs.Change.{applied}
+use Rattle.seek.specs.Parts.{retyped}
+
+-- the types once a record is put at a position
+kinds-set : (t : List Node) (i : ℕ) (n : Node) → kindsOf (set t i n) ≡ set (kindsOf t) i (n .kind)
+kinds-set [] i n = refl
+kinds-set (x ∷ t) zero n = refl
+kinds-set (x ∷ t) (suc i) n = ap (λ (l : List ℕ). x .kind ∷ l) (kinds-set t i n)
+
+-- owing the list to all changes no type
+kinds-owed : (t : List Node) → kindsOf (oweAll t) ≡ kindsOf t
+unfolding oweAll
+kinds-owed [] = refl
+kinds-owed (n ∷ t) = ap (λ (l : List ℕ). n .kind ∷ l) (kinds-owed t)
+
+-- and hearing a board neither
+kinds-heard : (t : List Node) (p mac : ℕ) → kindsOf (hearMac t p mac) ≡ kindsOf t
+unfolding choose
+kinds-heard t p mac = go (wantedAt (Mac mac) t p)
+  where
+    here : (b : Bool) → ltb 0 p ≡ b → kindsOf (hear t p) ≡ kindsOf t
+    here true h = ap kindsOf (put-position t p (heard (at t p)) (ltb-true 0 p h)) ∙ map-set-same kindOf t (p - 1) (heard (at t p)) none (ap kindOf (at-position t p (ltb-true 0 p h)))
+    here false h = ap kindsOf (put-zero t p (heard (at t p)) (ltb-false 0 p h))
+
+    go : (b : Bool) → kindsOf (choose b (hear t p) t) ≡ kindsOf t
+    go true = here (ltb 0 p) refl
+    go false = refl
+
+-- the types after a step that may have joined a board of this type
+abbrev Retypes : List Node → ℕ → After → Type 0
+Retypes t kind a = retyped (kindsOf t) (a .joined) kind ≡ kindsOf (a .nodes)
+
+-- those of a join: its own where it is taken, else as they were
+join-retypes : (c : Coordinator) (t : List Node) → fits c t ≡ true → (kind mac session : ℕ) → Retypes t kind (joinOf c t kind mac session)
+unfolding joinOf choose
+join-retypes c t fit kind mac session = by-rules (Retypes t kind) (joinRules c t kind mac) (refused c t) (joinedAs c t kind mac session) (each {Q = λ (r : Refusal). Retypes t kind (refused c t r)} (λ r. refl) (joinRules c t kind mac)) taken
+  where
+    n : ℕ
+    n = chosen t (c .setup .k) mac
+
+    taken : Passed (joinRules c t kind mac) → Retypes t kind (joinedAs c t kind mac session)
+    taken rules = sym (choose-yes _ _ _ _ (both _ _ (lt-ltb 0 n (within .from)) (le-leb n 40 (omega (arith, within .upTo, fit-told c t fit .setup .pool .upTo)))) (kinds-owed _ ∙ ap kindsOf (put-position t n (joinedNode kind mac session) (within .from)) ∙ kinds-set t (n - 1) (joinedNode kind mac session)))
+      where
+        within : Position (c .setup .k) n
+        within = chosen-within t (c .setup .k) mac (eqb-false n 0 (rules .1 .1 .1 .1 .1 .0))
 
 -- what the caller is shown of the ACK, by what its writing gave and by what was shown of how the exchange ends
 abbrev ackShown : Writing → Coordinator → List Node → Shown → Shown
 ackShown (Written n) c t s = leaving (s .coordinator) (s .nodes) transmits n (s .joined) 0
 ackShown (NotWritten q) c t s = shows (refused c t q)
 
-module _ (c : Coordinator) (t : List Node) (position : ℕ) (f : Found) (r : Stepped) (before after : List ℕ) where
-  -- it is what is shown of a step that has the ACK as its bytes
+-- the change that ends the exchange, once its ACK is written
+abbrev pub acked : Change → ℕ → Change
+acked x n =
+    record {
+      ended = x .ended;
+      moves = x .moves;
+      position = x .position;
+      edit = x .edit;
+      owe = x .owe;
+      outcome = record { answer = Transmit; written = n; joined = x .outcome .joined; dropped = 0 };
+    }
+
+module _ (c : Coordinator) (t : List Node) (position : ℕ) (f : Found) where
+  -- the types that the end of the exchange leaves
+  outcome-retypes : fits c t ≡ true → Retypes t (f .kind) (outcome c t position f)
+  unfolding choose
+  outcome-retypes fit = go (eqb (joinFound c t f .joined) position)
+    where
+      go : (b : Bool) → Retypes t (f .kind) (choose b (joinFound c t f) (resting (ended c) (hearMac t position (f .mac)) 0 0))
+      go true = join-retypes (ended c) t (ended-fits c t fit) (f .kind) (f .mac) (f .session)
+      go false = sym (kinds-heard t position (f .mac))
+
+  -- what is shown of the ACK is what is shown of a step that has it as its bytes
   as-written : (w : Writing) → ackShown w c t (shows (outcome c t position f)) ≡ shownAs w c t (acknowledged (c .setup) position (outcome c t position f))
   as-written (Written n) = refl
   as-written (NotWritten q) = refl
 
-  -- where the ACK carries the index of the records that the end leaves, it leaves what the definition says
-  pub leaves-settled : (ending : Stepped) → shown ending ≡ shows (outcome c t position f) → (w : Writing) → Sends (signedHeader (c .setup) (ending .table .nodes) position) (signed (c .setup) ackCode) w before after → shown r ≡ ackShown w c t (shown ending) → Leaves (settled c t position f (length before)) r before after
-  leaves-settled ending e w s h =
-      leaves-ack-written (c .setup) (outcome c t position f .nodes) position c t (acknowledged (c .setup) position (outcome c t position f)) refl r before after w
-      (subst (λ (x : Shown). Sends (signedHeader (c .setup) (x .nodes) position) (signed (c .setup) ackCode) w before after) e s)
-      (h ∙ ap (ackShown w c t) e ∙ as-written w)
+  module _ {s : Seen} (saw : Saw s c t) {kinds : List ℕ} (known : kinds ≡ kindsOf t) where
+    -- the records after it are forty
+    outcome-forty : length (outcome c t position f .nodes) ≡ 40
+    unfolding choose
+    outcome-forty = sym (length-map (outcome c t position f .nodes) kindOf) ∙ ap length (sym (outcome-retypes (saw .fit))) ∙ go (ltb 0 (outcome c t position f .joined) && leb (outcome c t position f .joined) 40) ∙ length-map t kindOf ∙ fits-forty c t (saw .fit)
+      where
+        go : (b : Bool) → length (choose b (set (kindsOf t) (outcome c t position f .joined - 1) (f .kind)) (kindsOf t)) ≡ length (kindsOf t)
+        go true = length-set (kindsOf t) _ _
+        go false = refl
+
+    -- so the header of the ACK is theirs
+    ack-header : {types : List ℕ} {joined : ℕ} → types ≡ retyped kinds joined (f .kind) → joined ≡ outcome c t position f .joined → signedHeader (s .setup) (typed types) position ≡ signedHeader (c .setup) (outcome c t position f .nodes) position
+    unfolding ownHeader
+    ack-header e j = rw (saw .setup, e, known, j, outcome-retypes (saw .fit), kinds-index (typed-kinds (outcome c t position f .nodes) outcome-forty) position) refl
+
+    -- where the ACK carries the index of the records that the end leaves, it leaves what the definition says
+    pub leaves-settled : (x : Change) (p before after : List ℕ) (ending : Change) → applied ending p c t ≡ shows (outcome c t position f) → {types : List ℕ} → types ≡ retyped kinds (ending .outcome .joined) (f .kind) → (w : Writing) → Sends (signedHeader (s .setup) (typed types) position) (signed (s .setup) ackCode) w before after → applied x p c t ≡ ackShown w c t (applied ending p c t)
+        → Leaves (settled c t position f (length before)) (made x p c t) before after
+    leaves-settled x p before after ending e types w sends h =
+        leaves-ack-written (c .setup) (outcome c t position f .nodes) position c t (acknowledged (c .setup) position (outcome c t position f)) refl (made x p c t) before after w
+        (rw (ack-header types (ap (λ (y : Shown). y .joined) e), saw .setup) at sends)
+        (h ∙ ap (ackShown w c t) e ∙ as-written w)

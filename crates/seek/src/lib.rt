@@ -1,86 +1,79 @@
 // The exchange by which a board joins: the step that starts it, and what its parts do on a frame and on a quiet. What it
 // has due is the crate turn's to send.
 use accept::Reply;
-use board::Table;
 use board::Wanted;
-use coordinator::Coordinator;
+use change::Change;
+use change::Edit;
+use change::Move;
 use coordinator::Found;
 use coordinator::Part;
 use coordinator::Phase;
+use coordinator::State;
 use frame::Header;
 use frame::Writing;
+use look::Seen;
 use refusal::Refusal;
-use setup::Judged;
 use steps::Answer;
+use steps::Outcome;
 use steps::Seek;
-use steps::Stepped;
+ghost use Prim.Native.Nat.{ℕ, _≤_};
 ghost use mathlib.Core.Path.{_≡_};
-ghost use mathlib.Core.List.{[]};
-ghost use lib.ListN.{length, take, drop};
-ghost use Rattle.ground.specs.Bytes.{laid};
-ghost use Rattle.refusal.specs.Refusal.{ruled, refuses, gives};
+ghost use mathlib.Core.List.{List};
+ghost use lib.ListN.{length, drop};
+ghost use Rattle.refusal.specs.Refusal.{ruled};
 ghost use Rattle.frame.specs.Frame.{byte};
-ghost use Rattle.setup.specs.Setup.{toldOf};
+ghost use Rattle.board.specs.declared.Node.{Node};
+ghost use Rattle.board.specs.Columns.{macsOf};
 ghost use Rattle.accept.specs.Replies.{toldReply};
-ghost use Rattle.steps.specs.After.{refused, shown, shows, Leaves};
-ghost use Rattle.steps.specs.Hear.{hearMac};
-ghost use Rattle.steps.specs.Seek.{discovered, identified, joinFound, answered, present, outcome, settled, replyIn, repliedAs, soughtIn, quietInSeek};
-ghost use Rattle.seek.specs.Parts.{teller};
-ghost use Rattle.steps.specs.Discover.{isHeldBack, discoverRules, searched, discoverOf};
+ghost use Rattle.coordinator.specs.declared.Coordinator.{Coordinator};
+ghost use Rattle.coordinator.specs.State.{stateOf};
+ghost use Rattle.look.specs.Seen.{OfTypes, OfMarks, OfColumns};
+ghost use Rattle.steps.specs.After.{refused, shows};
+ghost use Rattle.steps.specs.Seek.{joinFound, answered, present, outcome, settled, replyIn, repliedAs, soughtIn, quietInSeek};
+ghost use Rattle.steps.specs.Discover.{discoverRules, searched, discoverOf};
+ghost use Rattle.change.specs.Change.{applied};
+ghost use Rattle.change.specs.Decides.{Makes, Decides};
+ghost use Rattle.seek.specs.Parts.{macPlace, foundAt, teller, heldBackIn, hearing, retyped};
 
-// Whether a discovery is held back: joins are held, or one was started since the last offer and someone is listed.
-fn is_held_back(coordinator: Coordinator, table: Table) -> bool
-    ensures { λ r. ⌜ r ≡ isHeldBack coordinator (table .nodes) ⌝ }
+// Whether a discovery is held back: joins are held, or one was started since the last offer and someone is listed, that is
+// the highest listed position is not 0.
+fn is_held_back(state: State, top: usize) -> bool
+    ensures { λ r. ⌜ r ≡ heldBackIn state top ⌝ }
 {
-    (coordinator.held == 1) | ((coordinator.searched == 1) & board::some_listed(table))
-}
-
-// The first of the rules, on what the panel is about: 22, 14, 15. They do not ask for the room, which is 0 here.
-fn judge_moment(coordinator: Coordinator, table: Table) -> Judged
-    ensures { λ r. ⌜ toldOf r ≡ ruled (take 3 (discoverRules coordinator (table .nodes) 0)) refuses (gives []) ⌝ }
-{
-    if !coordinator::fits(coordinator, table) {
-        return Judged::Refused(Refusal::StateUnfit);
-    }
-    if join::is_busy(coordinator, table) {
-        return Judged::Refused(Refusal::Busy);
-    }
-    if is_held_back(coordinator, table) {
-        return Judged::Refused(Refusal::Held);
-    }
-    Judged::Fine
+    (state.held == 1) | ((state.searched == 1) & (0 < top))
 }
 
 // Writes Node Discovery with a position at stake, 16 where there is none, and waits for whoever has no address.
-fn search(coordinator: Coordinator, table: Table, out: &mut [u8]) -> Stepped
-    ensures { λ r. ⌜ Leaves (ruled (drop 3 (discoverRules coordinator (table .nodes) (length (now (out .entry))))) (refused coordinator (table .nodes)) (searched coordinator (table .nodes))) r (now (out .entry)) (now (out .exit)) ⌝ }
+fn search(seen: Seen, kinds: &[u8; 40], out: &mut [u8]) -> Change
+    ensures { λ r. ⌜ Decides seen (OfTypes (now (kinds .entry))) (λ c t. ruled (drop 3 (discoverRules c t (length (now (out .entry))))) (refused c t) (searched c t)) r (now (out .entry)) (now (out .exit)) ⌝ }
 {
-    let position = board::lowest(table, Wanted::Free, coordinator.setup.k);
+    let setup = seen.setup;
+    let position = board::lowest(kinds, Wanted::Free, setup.k);
     if position == 0 {
-        return steps::refusing(coordinator, table, Refusal::Full);
+        return change::refusing(Refusal::Full);
     }
     match message::write_discovery(out) {
-        Writing::Written(n) => steps::leaving(
-            coordinator::searching(coordinator, position),
-            table,
-            Answer::Seek(position, Seek::Search),
-            n,
-            0,
-            0,
-        ),
-        Writing::Refused(refusal) => steps::refusing(coordinator, table, refusal),
+        Writing::Written(n) => {
+            let next = Move::Searching(position);
+            let answer = Answer::Seek(position, Seek::Search);
+            change::changing(next, 0, Edit::Nothing, answer, n)
+        }
+        Writing::Refused(refusal) => change::refusing(refusal),
     }
 }
 
 // Starts a discovery: writes Node Discovery, and waits for whoever has no address.
-pub fn discover(coordinator: Coordinator, table: Table, out: &mut [u8]) -> Stepped
-    ensures { λ r. ⌜ (shown r ≡ shows (discoverOf coordinator (table .nodes) (length (now (out .entry))))) × (now (out .exit) ≡ laid (discoverOf coordinator (table .nodes) (length (now (out .entry))) .bytes) (now (out .entry))) ⌝ }
+pub fn discover(seen: Seen, kinds: &[u8; 40], marks: &[u8; 40], out: &mut [u8]) -> Change
+    ensures { λ r. ⌜ Decides seen (OfMarks (now (kinds .entry)) (now (marks .entry))) (λ c t. discoverOf c t (length (now (out .entry)))) r (now (out .entry)) (now (out .exit)) ⌝ }
 {
-    let judged = judge_moment(coordinator, table);
-    match judged {
-        Judged::Refused(refusal) => steps::refusing(coordinator, table, refusal),
-        Judged::Fine => search(coordinator, table, out),
+    let state = seen.state;
+    if join::is_busy(state, seen.top, marks) {
+        return change::refusing(Refusal::Busy);
     }
+    if is_held_back(state, seen.top) {
+        return change::refusing(Refusal::Held);
+    }
+    search(seen, kinds, out)
 }
 
 // The first byte of a payload, 0 where it has none.
@@ -93,133 +86,166 @@ fn first_byte(payload: &[u8]) -> u8
     payload[0]
 }
 
-// Who answered a discovery.
-fn discovered(payload: &[u8]) -> Found
-    ensures { λ r. ⌜ r ≡ discovered (now (payload .entry)) ⌝ }
+// Where the MAC stands in the payload of a reply: a discovery's response has a reserved byte before it.
+fn mac_place(reply: Reply) -> usize
+    ensures { λ r. ⌜ r ≡ macPlace reply ⌝ }
 {
-    Found {
-        kind: first_byte(payload),
-        mac: word::word_at(payload, 2),
-        session: word::word_at(payload, 10),
+    match reply {
+        Reply::Discovered => 2,
+        _ => 1,
     }
 }
 
-// Who has the address at stake.
-fn identified(payload: &[u8]) -> Found
-    ensures { λ r. ⌜ r ≡ identified (now (payload .entry)) ⌝ }
+// Who sent a reply: the type is its first byte, the MAC stands at a place, and the session right after it. Every reply is
+// read here, so that this is compiled once.
+fn found_at(payload: &[u8], at: usize) -> Found
+    requires { ⌜ at ≤ 2 ⌝ }
+    ensures { λ r. ⌜ r ≡ foundAt (now (payload .entry)) at ⌝ }
 {
     Found {
         kind: first_byte(payload),
-        mac: word::word_at(payload, 1),
-        session: word::word_at(payload, 9),
+        mac: word::word_at(payload, at),
+        session: word::word_at(payload, at + 8),
     }
 }
 
 // The join of a board, on the coordinator at rest.
-fn join_found(coordinator: Coordinator, table: Table, found: Found) -> Stepped
-    ensures { λ r. ⌜ shown r ≡ shows (joinFound coordinator (table .nodes) found) ⌝ }
+fn join_found(
+    seen: Seen,
+    kinds: &[u8; 40],
+    marks: &[u8; 40],
+    macs: &[u64; 40],
+    found: Found,
+) -> Change
+    ensures { λ r. ⌜ Makes seen (OfColumns (now (kinds .entry)) (now (marks .entry)) (now (macs .entry))) (λ c t. joinFound c t found) r ⌝ }
 {
-    let rested = coordinator::ended(coordinator);
-    join::join(rested, table, found.kind, found.mac, found.session)
+    let state = seen.state;
+    let mut rested = seen;
+    rested.state = coordinator::ended(state);
+    let joined = join::join(
+        rested,
+        kinds,
+        marks,
+        macs,
+        found.kind,
+        found.mac,
+        found.session,
+    );
+    change::ending(joined)
 }
 
 // The discovery was answered. Where who answered could join, the position that it would take is at stake; else the
 // exchange breaks off.
-fn answered(coordinator: Coordinator, table: Table, found: Found) -> Stepped
-    ensures { λ r. ⌜ shown r ≡ shows (answered coordinator (table .nodes) found) ⌝ }
+fn answered(
+    seen: Seen,
+    kinds: &[u8; 40],
+    marks: &[u8; 40],
+    macs: &[u64; 40],
+    found: Found,
+) -> Change
+    ensures { λ r. ⌜ Makes seen (OfColumns (now (kinds .entry)) (now (marks .entry)) (now (macs .entry))) (λ c t. answered c t found) r ⌝ }
 {
-    let joined = join_found(coordinator, table, found);
+    let joined = join_found(seen, kinds, marks, macs, found);
     let position = joined.outcome.joined;
     if 0 < position {
-        return steps::resting(
-            coordinator::finding(coordinator, found, position),
-            table,
-            0,
-            0,
-        );
+        let next = Move::Finding(found, position);
+        return change::resting(next, 0, Edit::Nothing, false, 0, 0);
     }
-    steps::resting(coordinator::ended(coordinator), table, 0, 0)
+    change::ending(change::resting(Move::Stay, 0, Edit::Nothing, false, 0, 0))
 }
 
-// The table once a frame of this MAC came from a position's address: the board that is listed there is heard where the
-// MAC is its own.
-fn hear_mac(table: Table, position: usize, mac: u64) -> Table
-    ensures { λ r. ⌜ r .nodes ≡ hearMac (table .nodes) position mac ⌝ }
+// What a frame of this MAC from a position's address is to the record there: the board is heard where the MAC is its own.
+fn hearing(macs: &[u64; 40], position: usize, mac: u64) -> Edit
+    ensures { λ r. ⌜ r ≡ hearing (now (macs .entry)) position mac ⌝ }
 {
-    let node = board::record_at(table, position);
-    if (node.kind != 0) & (node.mac == mac) {
-        return board::put_at(table, position, board::heard(node));
+    if board::mac_at(macs, position) == mac {
+        Edit::Heard
+    } else {
+        Edit::Nothing
     }
-    table
 }
 
 // An ACK from the address at stake: the wait goes on.
-fn present(coordinator: Coordinator, table: Table, position: usize, mac: u64) -> Stepped
-    ensures { λ r. ⌜ shown r ≡ shows (present coordinator (table .nodes) position mac) ⌝ }
+fn present(seen: Seen, macs: &[u64; 40], position: usize, mac: u64) -> Change
+    ensures { λ r. ⌜ Makes seen (λ c t. now (macs .entry) ≡ macsOf t) (λ c t. present c t position mac) r ⌝ }
 {
     let phase = Phase::Seeking {
         position: position,
         part: Part::Present,
     };
-    steps::leaving(
-        coordinator::with_phase(coordinator, phase),
-        hear_mac(table, position, mac),
-        Answer::Seek(position, Seek::Identify),
-        0,
-        0,
-        0,
-    )
+    let next = Move::To(phase);
+    let edit = hearing(macs, position, mac);
+    let answer = Answer::Seek(position, Seek::Identify);
+    change::changing(next, position, edit, answer, 0)
 }
 
 // How the exchange ends: who answered joins, where it takes the position at stake; else nobody does.
-fn outcome(coordinator: Coordinator, table: Table, position: usize, found: Found) -> Stepped
-    ensures { λ r. ⌜ shown r ≡ shows (outcome coordinator (table .nodes) position found) ⌝ }
+fn outcome(
+    seen: Seen,
+    kinds: &[u8; 40],
+    marks: &[u8; 40],
+    macs: &[u64; 40],
+    position: usize,
+    found: Found,
+) -> Change
+    ensures { λ r. ⌜ Makes seen (OfColumns (now (kinds .entry)) (now (marks .entry)) (now (macs .entry))) (λ c t. outcome c t position found) r ⌝ }
 {
-    let joined = join_found(coordinator, table, found);
+    let joined = join_found(seen, kinds, marks, macs, found);
     if joined.outcome.joined == position {
         return joined;
     }
-    steps::resting(
-        coordinator::ended(coordinator),
-        hear_mac(table, position, found.mac),
-        0,
-        0,
-    )
+    let edit = hearing(macs, position, found.mac);
+    change::ending(change::resting(Move::Stay, position, edit, false, 0, 0))
 }
 
-// Writes the ACK to a response that ends the exchange; where there is room for it the exchange has ended.
+// The types once a board has joined at a position; as they were where that is 0.
+fn retyped(kinds: &[u8; 40], position: usize, kind: u8) -> [u8; 40]
+    ensures { λ r. ⌜ r ≡ retyped (now (kinds .entry)) position kind ⌝ }
+{
+    let mut after = *kinds;
+    if 0 < position {
+        if position <= 40 {
+            let i = position - 1;
+            after[i] = kind;
+        }
+    }
+    after
+}
+
+// Writes the ACK to a response that ends the exchange, with the index of the records that it leaves; where there is room
+// for it the exchange has ended.
 fn settled(
-    coordinator: Coordinator,
-    table: Table,
+    seen: Seen,
+    kinds: &[u8; 40],
+    marks: &[u8; 40],
+    macs: &[u64; 40],
     position: usize,
     found: Found,
     out: &mut [u8],
-) -> Stepped
-    ensures { λ r. ⌜ Leaves (settled coordinator (table .nodes) position found (length (now (out .entry)))) r (now (out .entry)) (now (out .exit)) ⌝ }
+) -> Change
+    ensures { λ r. ⌜ Decides seen (OfColumns (now (kinds .entry)) (now (marks .entry)) (now (macs .entry))) (λ c t. settled c t position found (length (now (out .entry)))) r (now (out .entry)) (now (out .exit)) ⌝ }
 {
-    let after = outcome(coordinator, table, position, found);
-    match message::write_signed(coordinator.setup, after.table, position, 6, out) {
-        Writing::Written(n) => steps::leaving(
-            after.coordinator,
-            after.table,
-            Answer::Transmit,
-            n,
-            after.outcome.joined,
-            0,
-        ),
-        Writing::Refused(refusal) => steps::refusing(coordinator, table, refusal),
+    let mut after = outcome(seen, kinds, marks, macs, position, found);
+    let types = retyped(kinds, after.outcome.joined, found.kind);
+    let setup = seen.setup;
+    match message::write_signed(setup, &types, position, 6, out) {
+        Writing::Written(n) => {
+            let told = Outcome {
+                answer: Answer::Transmit,
+                written: n,
+                joined: after.outcome.joined,
+                dropped: 0,
+            };
+            after.outcome = told;
+            after
+        }
+        Writing::Refused(refusal) => change::refusing(refusal),
     }
 }
 
 // What a frame is to the part that the exchange is in.
-fn reply_in(
-    part: Part,
-    position: usize,
-    coordinator: Coordinator,
-    header: Header,
-    payload: &[u8],
-) -> Reply
-    ensures { λ r. ⌜ toldReply r ≡ toldReply (replyIn part position coordinator header (now (payload .entry))) ⌝ }
+fn reply_in(part: Part, position: usize, seen: Seen, header: Header, payload: &[u8]) -> Reply
+    ensures { λ r. ⌜ ((c : Coordinator) → seen .setup ≡ c .setup → seen .state ≡ stateOf c → toldReply r ≡ toldReply (replyIn part position c header (now (payload .entry)))) ⌝ }
 {
     let message = header.message;
     match part {
@@ -229,8 +255,9 @@ fn reply_in(
         Part::Present => accept::in_identify(message, payload, true),
         Part::AssignDue => Reply::Refused(Refusal::NotAwaited),
         Part::Assign => {
-            let setup = coordinator.setup;
-            let found = coordinator.found;
+            let setup = seen.setup;
+            let state = seen.state;
+            let found = state.found;
             let address = setup::address_at(setup, position);
             let same = accept::is_assignment(
                 payload,
@@ -245,15 +272,12 @@ fn reply_in(
 }
 
 // Who is to join by a reply that ends the exchange: whoever gave his ID, else what was discovered.
-fn teller(reply: Reply, found: Found, payload: &[u8]) -> Found
-    ensures { λ r. ⌜ r ≡ teller reply found (now (payload .entry)) ⌝ }
+fn teller(reply: Reply, found: Found, told: Found) -> Found
+    ensures { λ r. ⌜ r ≡ teller reply found told ⌝ }
 {
     match reply {
-        Reply::Discovered => found,
-        Reply::Present => found,
-        Reply::Identified => identified(payload),
-        Reply::Assigned => found,
-        Reply::Refused(_) => found,
+        Reply::Identified => told,
+        _ => found,
     }
 }
 
@@ -262,20 +286,23 @@ fn teller(reply: Reply, found: Found, payload: &[u8]) -> Found
 fn replied(
     reply: Reply,
     position: usize,
-    coordinator: Coordinator,
-    table: Table,
+    seen: Seen,
+    kinds: &[u8; 40],
+    marks: &[u8; 40],
+    macs: &[u64; 40],
     payload: &[u8],
     out: &mut [u8],
-) -> Stepped
-    ensures { λ r. ⌜ Leaves (repliedAs reply position coordinator (table .nodes) (now (payload .entry)) (length (now (out .entry)))) r (now (out .entry)) (now (out .exit)) ⌝ }
+) -> Change
+    ensures { λ r. ⌜ Decides seen (OfColumns (now (kinds .entry)) (now (marks .entry)) (now (macs .entry))) (λ c t. repliedAs reply position c t (now (payload .entry)) (length (now (out .entry)))) r (now (out .entry)) (now (out .exit)) ⌝ }
 {
+    let told = found_at(payload, mac_place(reply));
     match reply {
-        Reply::Discovered => answered(coordinator, table, discovered(payload)),
-        Reply::Present => present(coordinator, table, position, word::word_at(payload, 1)),
-        Reply::Refused(refusal) => steps::refusing(coordinator, table, refusal),
+        Reply::Discovered => answered(seen, kinds, marks, macs, told),
+        Reply::Present => present(seen, macs, position, told.mac),
+        Reply::Refused(refusal) => change::refusing(refusal),
         _ => {
-            let found = teller(reply, coordinator.found, payload);
-            settled(coordinator, table, position, found, out)
+            let found = teller(reply, seen.state.found, told);
+            settled(seen, kinds, marks, macs, position, found, out)
         }
     }
 }
@@ -284,35 +311,36 @@ fn replied(
 pub fn sought(
     part: Part,
     position: usize,
-    coordinator: Coordinator,
-    table: Table,
+    seen: Seen,
+    kinds: &[u8; 40],
+    marks: &[u8; 40],
+    macs: &[u64; 40],
     header: Header,
     payload: &[u8],
     out: &mut [u8],
-) -> Stepped
-    ensures { λ r. ⌜ Leaves (soughtIn part position coordinator (table .nodes) header (now (payload .entry)) (length (now (out .entry)))) r (now (out .entry)) (now (out .exit)) ⌝ }
+) -> Change
+    ensures { λ r. ⌜ Decides seen (OfColumns (now (kinds .entry)) (now (marks .entry)) (now (macs .entry))) (λ c t. soughtIn part position c t header (now (payload .entry)) (length (now (out .entry)))) r (now (out .entry)) (now (out .exit)) ⌝ }
 {
-    let reply = reply_in(part, position, coordinator, header, payload);
-    replied(reply, position, coordinator, table, payload, out)
+    let reply = reply_in(part, position, seen, header, payload);
+    replied(reply, position, seen, kinds, marks, macs, payload, out)
 }
 
 // Quiet in the exchange: where nobody answered at the address at stake it is free, and is to be assigned; else the
 // exchange breaks off.
-pub fn quieted(part: Part, position: usize, coordinator: Coordinator, table: Table) -> Stepped
-    ensures { λ r. ⌜ shown r ≡ shows (quietInSeek part position coordinator (table .nodes)) ⌝ }
+pub fn quieted(part: Part, position: usize) -> Change
+    ensures { λ r. ⌜ ((p : List ℕ) (c : Coordinator) (t : List Node) → applied r p c t ≡ shows (quietInSeek part position c t)) ⌝ }
 {
     match part {
-        Part::Search => steps::resting(coordinator::ended(coordinator), table, 0, 0),
-        Part::IdentifyDue => steps::refusing(coordinator, table, Refusal::NotWaiting),
+        Part::IdentifyDue => change::refusing(Refusal::NotWaiting),
+        Part::AssignDue => change::refusing(Refusal::NotWaiting),
         Part::Identify => {
             let phase = Phase::Seeking {
                 position: position,
                 part: Part::AssignDue,
             };
-            steps::resting(coordinator::with_phase(coordinator, phase), table, 0, 0)
+            let next = Move::To(phase);
+            change::resting(next, 0, Edit::Nothing, false, 0, 0)
         }
-        Part::Present => steps::resting(coordinator::ended(coordinator), table, 0, 0),
-        Part::AssignDue => steps::refusing(coordinator, table, Refusal::NotWaiting),
-        Part::Assign => steps::resting(coordinator::ended(coordinator), table, 0, 0),
+        _ => change::ending(change::resting(Move::Stay, 0, Edit::Nothing, false, 0, 0)),
     }
 }

@@ -1,5 +1,5 @@
 -- The test of a table decides what it should.
-use Prim.Native.Nat.{ℕ, _+_, _-_, _≤_, _<_}
+use Prim.Native.Nat.{ℕ, _+_, _-_, _≤_, _<_, min}
 use native.Mathlib.Omega.{arith}
 use native.Mathlib.Decide.{ℕ-discrete}
 use mathlib.Core.Path.{_≡_, refl, sym, ap, _∙_}
@@ -8,15 +8,20 @@ use mathlib.Core.Bool.{Bool, true, false, _&&_, _||_, not}
 use mathlib.Core.List.{List, map}
 use lib.Dec.{eqb, leb, ltb}
 use lib.ListN.{getD, length, length-map, List·getD-map}
-use borrow.Author.Tests.{ltb-true, ltb-false, leb-true, leb-false, eqb-true, eqb-false, not-true, lt-ltb, le-leb, eq-eqb, ne-eqb}
+use borrow.Author.Tests.{ltb-true, ltb-false, leb-true, leb-false, eqb-true, eqb-false, not-true, not-false, lt-ltb, le-leb, eq-eqb, ne-eqb}
 use Rattle.ground.proofs.Choices.{and-left, and-right, both, or-left, or-right, either, not-yes}
-use Rattle.ground.proofs.Loops.{all-at, all-of}
+use Rattle.ground.specs.Below.{all}
+use Rattle.ground.proofs.Loops.{all-at, all-of, all-past}
 use Rattle.board.specs.declared.Node.{Node}
 use Rattle.board.specs.Node.{none, isBlank, isMac, isKind, inRange}
-use Rattle.board.specs.Table.{at}
+use Rattle.board.specs.Table.{at, listedAt}
+use Rattle.board.specs.Wanted.{highestListed}
+use Rattle.board.specs.Columns.{macOf, macsOf}
+use Rattle.board.proofs.LowestWanted.{none-above}
 use Rattle.board.proofs.Positions.{at-position, at-zero, at-past}
-use Rattle.setup.specs.Fit.{recordFits, recordsFit, apartFrom, areApart, macOf, tableFits}
+use Rattle.setup.specs.Fit.{recordFits, recordsFit, apartFrom, areApart, tableFits}
 use Rattle.setup.specs.Fitness.{Listed, InRanges, FitTable}
+use Rattle.setup.proofs.Lower.{apart-zero}
 use Rattle.setup.proofs.Pools.{mac-told, mac-passes}
 
 -- one record
@@ -142,6 +147,14 @@ table-told k t e h =
     different : (b : Bool) (p q : ℕ) → ltb p q ≡ b → Listed t p → Listed t q → (p ≡ q → ⊥) → at t p .mac ≡ at t q .mac → ⊥
     different true p q b lp lq ne s = lower p q lp lq (ltb-true p q b) (sym s)
     different false p q b lp lq ne s = lower q p lq lp (omega (arith, ltb-false p q b)) s
+
+-- of records that are fit by themselves, those that are not listed have no MAC, so that MACs are to be compared up to the highest listed position
+pub apart-listed : (k : ℕ) (t : List Node) → length t ≡ 40 → recordsFit k t ≡ true → all (apartFrom (macsOf t)) (min (highestListed t) 40) ≡ areApart (macsOf t)
+unfolding areApart
+apart-listed k t e h = rw (length-map t macOf ∙ e) (all-past (apartFrom (macsOf t)) (min (highestListed t) 40) 40 (omega arith) (λ i a b. sym (apart-zero (macsOf t) i (mac-at t i ∙ ap macOf (free i b (none-above t (i + 1) (omega (arith, a, b)) (omega arith)))))))
+  where
+    free : (i : ℕ) → i < 40 → listedAt t (i + 1) ≡ false → at t (i + 1) ≡ none
+    free i b l = free-told k i (at t (i + 1)) (rw (index t i) (all-at (λ j. recordFits k j (getD t j none)) 40 i h b)) (eqb-true (at t (i + 1) .kind) 0 (not-false (eqb (at t (i + 1) .kind) 0) l))
 
 record-passes : (k : ℕ) (t : List Node) → FitTable k t → (i : ℕ) → recordFits k i (at t (i + 1)) ≡ true
 unfolding recordFits

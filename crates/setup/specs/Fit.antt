@@ -1,12 +1,13 @@
 -- The part of "fit" that speaks of the table (01, "Fit"). Index i, from 0, is position i + 1.
 use Prim.Native.Nat.{ℕ}
 use mathlib.Core.Bool.{Bool, _&&_, _||_, not}
-use mathlib.Core.List.{List, map}
+use mathlib.Core.List.{List}
 use lib.ListN.{getD, length}
 use lib.Dec.{eqb, ltb}
 use Rattle.ground.specs.Below.{all}
 use Rattle.board.specs.declared.Node.{Node}
 use Rattle.board.specs.Node.{none, isBlank, inRange}
+use Rattle.board.specs.Columns.{macsOf}
 
 -- a record is listed within 1 to k and its ranges, or all zeros (01, "listed records within 1 to k and the ranges, others all zeros")
 unfoldable pub recordFits : ℕ → ℕ → Node → Bool
@@ -24,9 +25,6 @@ apartFrom macs i = all (λ j. eqb (getD macs i 0) 0 || not (eqb (getD macs i 0) 
 unfoldable pub areApart : List ℕ → Bool
 areApart macs = all (apartFrom macs) (length macs)
 
-abbrev pub macOf : Node → ℕ
-macOf n = n .mac
-
 -- forty records, listed ones within 1 to k and the ranges, with different MACs, others all zeros (01, "Fit")
 unfoldable pub tableFits : ℕ → List Node → Bool
-tableFits k t = recordsFit k t && areApart (map macOf t)
+tableFits k t = recordsFit k t && areApart (macsOf t)

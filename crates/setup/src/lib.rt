@@ -1,16 +1,16 @@
 // The panel's setup: the pool of addresses, the bytes that its frames carry, its own MAC and session. And the part of
 // "fit" that speaks of the setup and of the table.
 use board::Node;
-use board::Table;
 use refusal::Refusal;
 ghost use mathlib.Core.Path.{_≡_};
 ghost use mathlib.Core.List.{[]};
-ghost use Prim.Native.Nat.{_+_, _≤_, _<_};
+ghost use Prim.Native.Nat.{_+_, _≤_, _<_, min};
 ghost use lib.ListN.{length};
 ghost use Rattle.refusal.specs.Refusal.{ruled, refuses, gives};
 ghost use Rattle.board.specs.Node.{isMac, isBlank, inRange};
 ghost use Rattle.setup.specs.Setup.{areAddresses, areRising, arePool, isPool, shippedPool, address, setupFits, setupRules, toldOf};
-ghost use Rattle.setup.specs.Fit.{recordFits, apartFrom, areApart, tableFits};
+ghost use Rattle.setup.specs.Fit.{recordFits, apartFrom};
+ghost use Rattle.ground.specs.Below.{all};
 
 // The first k of the pool are in use. `internal` is the type of the virtual internal subordinate.
 #[repr(C)]
@@ -199,7 +199,7 @@ fn is_blank(node: Node) -> bool
 }
 
 // The record at index i, that is at position i + 1, is fit among k positions.
-fn record_fits(k: usize, i: usize, node: Node) -> bool
+pub fn record_fits(k: usize, i: usize, node: Node) -> bool
     ensures { λ r. ⌜ r ≡ recordFits k i node ⌝ }
 {
     if node.kind == 0 {
@@ -211,8 +211,8 @@ fn record_fits(k: usize, i: usize, node: Node) -> bool
 
 // The MAC at index i is 0, or none of those before it. All of them are looked at, with no way out of the loop: the compiler
 // then compares several at once. In it the MAC is not 0; the test stands as the definition has it.
-fn apart_from_lower(macs: &[u64], i: usize) -> bool
-    requires { ⌜ i < length (now macs) ⌝ }
+fn apart_from_lower(macs: &[u64; 40], i: usize) -> bool
+    requires { ⌜ i < 40 ⌝ }
     ensures { λ r. ⌜ r ≡ apartFrom (now (macs .entry)) i ⌝ }
 {
     let mac = macs[i];
@@ -228,31 +228,16 @@ fn apart_from_lower(macs: &[u64], i: usize) -> bool
     apart
 }
 
-// No MAC but 0 stands twice: each pair is compared once.
-fn are_apart(macs: &[u64]) -> bool
-    ensures { λ r. ⌜ r ≡ areApart (now (macs .entry)) ⌝ }
+// Of the first of forty MACs, no MAC but 0 stands twice: each pair is compared once.
+pub fn are_apart(macs: &[u64; 40], count: usize) -> bool
+    ensures { λ r. ⌜ r ≡ all (apartFrom (now (macs .entry))) (min count 40) ⌝ }
 {
+    let n = ground::least(count, 40);
     let mut ok = true;
     let mut i: usize = 0;
-    while i < macs.len() {
+    while i < n {
         ok = ok & apart_from_lower(macs, i);
         i += 1;
     }
     ok
-}
-
-// The table is fit among k positions. It is passed once; the MACs are compared by themselves, since a slice of them is cheap to hand on
-// in a loop, and the table is not.
-pub fn table_fits(k: usize, table: Table) -> bool
-    ensures { λ r. ⌜ r ≡ tableFits k (table .nodes) ⌝ }
-{
-    let mut macs = [0u64; 40];
-    let mut ok = true;
-    let mut i: usize = 0;
-    while i < 40 {
-        ok = ok & record_fits(k, i, table.nodes[i]);
-        macs[i] = table.nodes[i].mac;
-        i += 1;
-    }
-    ok & are_apart(&macs)
 }

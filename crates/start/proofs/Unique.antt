@@ -1,9 +1,8 @@
--- The contract of `start`, as it stands in the source, leaves one outcome for each input.
+-- The contract of `begin`, as it stands in the source, leaves one result for each input.
 use mathlib.Core.Path.{_≡_, sym, _∙_}
 use base.Fml.{Lft}
-use Rattle.steps.specs.declared.Stepped.{Stepped}
-use Rattle.steps.proofs.Shows.{same-shown}
-use Rattle.start.proofs.start.Reads as start
+use Rattle.start.specs.declared.Begun.{Begun}
+use Rattle.start.proofs.begin.Reads as begin
 
-pub unique-start : (κs : Lft × Unit {0}) (a s t : _) (r q : Stepped) → start.Post κs a r s → start.Post κs a q t → r ≡ q
-unique-start κs a s t r q p p′ = same-shown r q (p ∙ sym p′)
+pub unique-begin : (κs : Lft × Unit {0}) (a s t : _) (r q : Begun) → begin.Post κs a r s → begin.Post κs a q t → r ≡ q
+unique-begin κs a s t r q p p′ = p ∙ sym p′

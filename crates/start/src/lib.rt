@@ -1,15 +1,23 @@
 // Setup: the fresh start. It clears all records, waits, dues and holds.
-use board::Table;
 use coordinator::Coordinator;
+use refusal::Refusal;
 use setup::Judged;
 use setup::Setup;
-use steps::Stepped;
+use steps::Answer;
+use steps::Outcome;
 ghost use mathlib.Core.Path.{_≡_};
 ghost use Prim.Native.Nat.{_≤_};
 ghost use lib.ListN.{length, replicate};
 ghost use Rattle.ground.specs.Bytes.{laid};
-ghost use Rattle.steps.specs.After.{shown, shows};
-ghost use Rattle.steps.specs.Start.{setupOf, startOf};
+ghost use Rattle.steps.specs.Start.{setupOf};
+ghost use Rattle.start.specs.Begin.{begun, beginOf};
+
+// The coordinator after setup, how many of the records it clears, all or none, and what it answers.
+pub struct Begun {
+    pub coordinator: Coordinator,
+    pub clear: usize,
+    pub outcome: Outcome,
+}
 
 // The addresses, and zeros in the places that they leave.
 fn padded(addresses: &[u8]) -> [u8; 40]
@@ -41,26 +49,45 @@ fn setup_of(addresses: &[u8], subnet: u8, internal: u8, mac: u64, session: u64) 
     }
 }
 
-// A table by value has forty records, so that only the pool and the MAC can be refused.
-pub fn start(
+// What setup leaves of a coordinator, how many records it clears, and its answer: nothing is written, nobody joins and nobody is dropped.
+fn leaving(coordinator: Coordinator, clear: usize, answer: Answer) -> Begun
+    ensures { λ r. ⌜ r ≡ begun coordinator clear answer ⌝ }
+{
+    let outcome = Outcome {
+        answer: answer,
+        written: 0,
+        joined: 0,
+        dropped: 0,
+    };
+    Begun {
+        coordinator: coordinator,
+        clear: clear,
+        outcome: outcome,
+    }
+}
+
+// Setup over `count` records, which are cleared where they stand.
+pub fn begin(
     coordinator: Coordinator,
-    table: Table,
+    count: usize,
     addresses: &[u8],
     subnet: u8,
     internal: u8,
     mac: u64,
     session: u64,
-) -> Stepped
-    ensures { λ r. ⌜ shown r ≡ shows (startOf coordinator (table .nodes) (now (addresses .entry)) subnet internal mac session) ⌝ }
+) -> Begun
+    ensures { λ r. ⌜ r ≡ beginOf coordinator count (now (addresses .entry)) subnet internal mac session ⌝ }
 {
+    if count != 40 {
+        return leaving(coordinator, 0, Answer::Refuse(Refusal::StateUnfit));
+    }
     let judged = setup::judge_setup(addresses, mac);
     match judged {
-        Judged::Refused(refusal) => steps::refusing(coordinator, table, refusal),
+        Judged::Refused(refusal) => leaving(coordinator, 0, Answer::Refuse(refusal)),
         Judged::Fine => {
             let setup = setup_of(addresses, subnet, internal, mac, session);
             let fresh = coordinator::fresh(setup);
-            let blank = coordinator::blank_table();
-            steps::resting(fresh, blank, 0, 0)
+            leaving(fresh, count, Answer::Rest)
         }
     }
 }

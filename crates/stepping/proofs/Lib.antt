@@ -1,3 +1,4 @@
 pub mod Silent
 pub mod Written
+pub mod Unfit
 pub mod Unique

@@ -6,8 +6,6 @@ use lib.ListN.{getD}
 use Rattle.refusal.specs.Refusal.{Told, refuses}
 use Rattle.refusal.specs.declared.Refusal.{Refusal}
 use Rattle.refusal.proofs.Numbers.{not-zero, same-refused}
-use Rattle.board.specs.declared.Node.{Node}
-use Rattle.coordinator.specs.declared.Coordinator.{Coordinator}
 use Rattle.coordinator.specs.declared.Exchange.{Exchange}
 use Rattle.coordinator.specs.declared.Exchange.the-variants.{Offer, List as Listing, Forward, Return}
 use Rattle.steps.specs.declared.Seek.{Seek as Seeks}
@@ -15,7 +13,7 @@ use Rattle.steps.specs.declared.Seek.the-variants.{Search, Identify, Ass
 use Rattle.steps.specs.declared.Answer.{Answer}
 use Rattle.steps.specs.declared.Answer.the-variants.{Wait, Seek, Deliver, Transmit, Rest, Refuse}
 use Rattle.steps.specs.declared.Stepped.{Stepped}
-use Rattle.steps.specs.After.{exchangeNumber, seekNumber, told, After, resting, Shown, shown, shows, Leaves}
+use Rattle.steps.specs.After.{exchangeNumber, seekNumber, told, After, Shown, shown, Leaves}
 
 -- the waits for position b by the number of their exchange
 waitAt : ℕ → ℕ → Answer
@@ -108,7 +106,3 @@ same-shown r q e =
 -- what is left may be said by any equal definition
 pub leaves-as : (r : Stepped) (before after : List ℕ) {a b : After} → a ≡ b → Leaves b r before after → Leaves a r before after
 leaves-as r before after e h = subst (λ (x : After). Leaves x r before after) (sym e) h
-
--- a step that rests shows the same of equal coordinators and tables
-pub same-resting : {c d : Coordinator} {t u : List Node} (joined dropped : ℕ) → c ≡ d → t ≡ u → shows (resting c t joined dropped) ≡ shows (resting d u joined dropped)
-same-resting joined dropped e f = λ i. shows (resting (e i) (f i) joined dropped)

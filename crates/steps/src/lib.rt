@@ -6,7 +6,6 @@ use coordinator::Exchange;
 use coordinator::Part;
 use refusal::Refusal;
 ghost use mathlib.Core.Path.{_≡_};
-ghost use Rattle.steps.specs.After.{told, shown, shows, leaving, refused, resting};
 ghost use Rattle.steps.specs.Seek.{isWaiting};
 
 // What happens to the panel: a board has joined, it is the panel's turn, bytes came in, nothing came in, boards without an
@@ -50,44 +49,6 @@ pub struct Stepped {
     pub coordinator: Coordinator,
     pub table: Table,
     pub outcome: Outcome,
-}
-
-// A step with its answer, the count of bytes written, the position joined and the one dropped, 0 for none.
-pub fn leaving(
-    coordinator: Coordinator,
-    table: Table,
-    answer: Answer,
-    written: usize,
-    joined: usize,
-    dropped: usize,
-) -> Stepped
-    ensures { λ r. ⌜ shown r ≡ leaving coordinator (table .nodes) (told answer) written joined dropped ⌝ }
-{
-    let outcome = Outcome {
-        answer: answer,
-        written: written,
-        joined: joined,
-        dropped: dropped,
-    };
-    Stepped {
-        coordinator: coordinator,
-        table: table,
-        outcome: outcome,
-    }
-}
-
-// A step that refuses: all is as it was, and nothing is written.
-pub fn refusing(coordinator: Coordinator, table: Table, refusal: Refusal) -> Stepped
-    ensures { λ r. ⌜ shown r ≡ shows (refused coordinator (table .nodes) refusal) ⌝ }
-{
-    leaving(coordinator, table, Answer::Refuse(refusal), 0, 0, 0)
-}
-
-// A step after which the panel rests, with the position joined and the one dropped; nothing is written.
-pub fn resting(coordinator: Coordinator, table: Table, joined: usize, dropped: usize) -> Stepped
-    ensures { λ r. ⌜ shown r ≡ shows (resting coordinator (table .nodes) joined dropped) ⌝ }
-{
-    leaving(coordinator, table, Answer::Rest, 0, joined, dropped)
 }
 
 // Whether a part of the exchange by which a board joins waits; in the others a transmission is due.

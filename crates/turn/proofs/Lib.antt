@@ -1,3 +1,4 @@
+pub mod Seen
 pub mod Sending
 pub mod Turns
 pub mod Transmissions

@@ -1,6 +1,4 @@
--- What a transmission leaves, by what its writing gave; which transmission is due.
-use Rattle.steps.proofs.Shows.{leaves-as}
-use Rattle.steps.proofs.Writes.{shownAs, leaves-written}
+-- What the change of a transmission shows, by what its writing gave; which transmission is due.
 use Prim.Native.Nat.{ℕ, _≤_, _<_}
 use native.Mathlib.Omega.{arith}
 use mathlib.Core.Path.{_≡_, refl, sym, ap, _∙_}
@@ -11,6 +9,7 @@ use borrow.Author.Tests.{lt-ltb, le-ltb}
 use types.Run.{OneOf, miss}
 use denote.Enum.Declared.{tagOf}
 use Rattle.ground.proofs.Choices.{choose-yes, choose-no}
+use Rattle.frame.specs.declared.Header.{Header}
 use Rattle.frame.specs.declared.Writing.{Writing}
 use Rattle.frame.specs.declared.Writing.the-variants.{Written, Refused as NotWritten}
 use Rattle.board.specs.declared.Node.{Node}
@@ -23,25 +22,37 @@ use Rattle.coordinator.specs.declared.Part.the-variants.{Search, IdentifyDue, I
 use Rattle.coordinator.specs.declared.Phase.{Phase}
 use Rattle.coordinator.proofs.Phase as phase
 use Rattle.coordinator.specs.declared.Phase.the-variants.{Resting, Awaiting, ForwardDue, ReturnDue, Seeking, Unknown}
-use Rattle.steps.specs.declared.Stepped.{Stepped}
-use Rattle.steps.specs.After.{shown, Leaves}
+use Rattle.steps.specs.declared.Answer.{Answer}
+use Rattle.steps.specs.After.{After, leaving, told}
 use Rattle.steps.specs.Turn.{Due, dueList, dueOffer, dueOwn, dueAssign, dueSeek, dueIn, owedTo, sent}
 use Rattle.steps.specs.Seek.{isWaiting}
-use Rattle.turn.specs.Sending.{sending, shownOf}
+use Rattle.steps.proofs.Writes.{shownAs, leaves-written}
+use Rattle.change.specs.declared.Edit.{Edit}
+use Rattle.change.specs.declared.Move.{Move}
+use Rattle.change.specs.declared.Change.{Change}
+use Rattle.change.specs.Change.{moved, editedAt, applied}
+use Rattle.change.proofs.Making.{makes-edit, makes-refusal, made, Shows, shows-as}
+use Rattle.turn.specs.Sending.{sending, sentAs}
 
--- a writing of the header and payload that are due, shown as it came out, leaves what the definition says
-module _ (d : Due) (c : Coordinator) (t : List Node) (r : Stepped) (before after : List ℕ) (small : length (d .payload) ≤ 240) where
-  pub leaves-sent : (w : Writing) {next : Coordinator} {nodes : List Node} → Sends (d .header) (d .payload) w before after → next ≡ d .coordinator → nodes ≡ d .nodes → shown r ≡ shownOf w c t next nodes (d .says) → Leaves (sending d c t (length before)) r before after
+-- a change, made, shows what a step shows, and the output that was lent holds the step's bytes at its front
+abbrev pub Does : After → Change → List ℕ → Coordinator → List Node → List ℕ → List ℕ → Type 0
+Does a x p c t before after = Shows a (applied x p c t) before after
+
+-- so it does of an equal transmission
+pub does-due : (x : Change) (p : List ℕ) (c : Coordinator) (t : List Node) (before after : List ℕ) {d e : Due} → d ≡ e → Does (sending e c t (length before)) x p c t before after → Does (sending d c t (length before)) x p c t before after
+does-due x p c t before after q h = shows-as before after (ap (λ (y : Due). sending y c t (length before)) q) h
+
+-- a writing of the header and payload that are due makes a change that shows what the definition says
+module _ (d : Due) (p : List ℕ) (c : Coordinator) (t : List Node) (before after : List ℕ) (small : length (d .payload) ≤ 240) where
+  pub does-sent : (w : Writing) {x : Change} (next : Move) {m : Move} (position : ℕ) (edit : Edit) (answer : Answer) → x ≡ sentAs w next position edit answer → next ≡ m → moved m p c ≡ d .coordinator → editedAt t position edit ≡ d .nodes → told answer ≡ d .says
+      → {h : Header} {payload : List ℕ} → Sends h payload w before after → h ≡ d .header → payload ≡ d .payload
+      → Does (sending d c t (length before)) x p c t before after
   unfolding sending
-  leaves-sent w {next} {nodes} s en et e = leaves-written (d .header) (d .payload) small c t (sent d) refl r before after w s (e ∙ as-due w)
+  does-sent w {x} next position edit answer e em en et ea sends eh ep = leaves-written (d .header) (d .payload) small c t (sent d) refl (made x p c t) before after w (rw (eh, ep) at sends) (as-due w e)
     where
-      as-due : (v : Writing) → shownOf v c t next nodes (d .says) ≡ shownAs v c t (sent d)
-      as-due (Written n) = rw (en, et) refl
-      as-due (NotWritten q) = refl
-
--- what is left of one step is left of an equal one, and so of one transmission
-pub leaves-due : (c : Coordinator) (t : List Node) (r : Stepped) (before after : List ℕ) {d e : Due} → d ≡ e → Leaves (sending e c t (length before)) r before after → Leaves (sending d c t (length before)) r before after
-leaves-due c t r before after q h = leaves-as r before after (ap (λ (x : Due). sending x c t (length before)) q) h
+      as-due : (v : Writing) → x ≡ sentAs v next position edit answer → applied x p c t ≡ shownAs v c t (sent d)
+      as-due (Written n) k = makes-edit p c t position edit answer n 0 0 k ∙ (λ i. leaving ((ap (λ (y : Move). moved y p c) em ∙ en) i) (et i) (ea i) n 0 0)
+      as-due (NotWritten q) k = makes-refusal p c t q k
 
 module _ (c : Coordinator) (t : List Node) where
   -- the list is due where a position is owed it, an offer where none is

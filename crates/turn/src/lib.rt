@@ -1,58 +1,47 @@
 // Turn: the panel's next transmission.
-use board::Table;
-use board::Wanted;
-use coordinator::Coordinator;
+use change::Change;
+use change::Edit;
+use change::Move;
 use coordinator::Exchange;
-use coordinator::Kept;
+use coordinator::Head;
 use coordinator::Part;
 use coordinator::Phase;
 use frame::Header;
 use frame::Writing;
+use look::Seen;
 use refusal::Refusal;
 use setup::Setup;
 use steps::Answer;
 use steps::Seek;
-use steps::Stepped;
 ghost use mathlib.Core.Path.{_≡_};
-ghost use Prim.Native.Nat.{_≤_};
 ghost use lib.ListN.{length, take};
 ghost use mathlib.Core.Bool.{false};
-ghost use Rattle.ground.specs.Bytes.{laid};
 ghost use Rattle.board.specs.Wanted.{indexOf};
 ghost use Rattle.message.specs.Message.{toBoard, Sends};
-ghost use Rattle.coordinator.specs.declared.Exchange.the-variants.{Forward, Return};
-ghost use Rattle.coordinator.specs.Change.{withPhase};
-ghost use Rattle.steps.specs.After.{told, shown, shows, Leaves};
+ghost use Rattle.coordinator.specs.declared.Exchange.the-variants.{Forward};
+ghost use Rattle.coordinator.specs.Phase.{phaseOf};
+ghost use Rattle.coordinator.specs.State.{keptAs};
+ghost use Rattle.look.specs.Seen.{OfTypes, OfMarks};
 ghost use Rattle.steps.specs.Seek.{isWaiting};
 ghost use Rattle.steps.specs.Turn.{carriedHeader, dueCarried, dueList, dueOffer, dueOwn, dueIdentify, dueAssign, dueSeek, dueIn, isAwaiting, isDue, turnOf};
-ghost use Rattle.turn.specs.Sending.{sending, shownOf};
+ghost use Rattle.change.specs.declared.Move.the-variants.{To};
+ghost use Rattle.change.specs.Decides.{Decides};
+ghost use Rattle.turn.specs.Sending.{sending, sentAs, OfKept};
 
-// The step after a transmission. Where it was written it says what the panel now waits for, with the coordinator and the
-// records as they are then; where it was not, both are as they were.
-fn sent(
-    writing: Writing,
-    coordinator: Coordinator,
-    table: Table,
-    next: Coordinator,
-    records: Table,
-    answer: Answer,
-) -> Stepped
-    ensures { λ r. ⌜ shown r ≡ shownOf writing coordinator (table .nodes) next (records .nodes) (told answer) ⌝ }
+// The change that a transmission makes. Where it was written it says what the panel now waits for, how the coordinator moves
+// and what is done to the record at a position; where it was not, nothing changes.
+fn sent(writing: Writing, next: Move, position: usize, edit: Edit, answer: Answer) -> Change
+    ensures { λ r. ⌜ r ≡ sentAs writing next position edit answer ⌝ }
 {
     match writing {
-        Writing::Written(n) => steps::leaving(next, records, answer, n, 0, 0),
-        Writing::Refused(refusal) => steps::refusing(coordinator, table, refusal),
+        Writing::Written(n) => change::changing(next, position, edit, answer, n),
+        Writing::Refused(refusal) => change::refusing(refusal),
     }
 }
 
-// The coordinator that waits for a board.
-fn waiting(
-    coordinator: Coordinator,
-    board: usize,
-    exchange: Exchange,
-    requester: usize,
-) -> Coordinator
-    ensures { λ r. ⌜ r ≡ withPhase coordinator (Phase.Awaiting board exchange requester false) ⌝ }
+// The coordinator waits for a board.
+fn waiting(board: usize, exchange: Exchange, requester: usize) -> Move
+    ensures { λ r. ⌜ r ≡ To (Phase.Awaiting board exchange requester false) ⌝ }
 {
     let phase = Phase::Awaiting {
         board: board,
@@ -60,62 +49,70 @@ fn waiting(
         requester: requester,
         acked: false,
     };
-    coordinator::with_phase(coordinator, phase)
+    Move::To(phase)
 }
 
-// Writes the message that is kept to a board. Its length is cut at the array's, so that no length is out of bounds; whom
+// Writes the message that is kept to a board. Its length is cut at the payload's, so that no length is out of bounds; whom
 // it goes to and comes from is for the writer to say.
-fn write_carried(kept: Kept, setup: Setup, board: usize, parameter2: u8, out: &mut [u8]) -> Writing
-    ensures { λ r. ⌜ (length (take (kept .length) (kept .payload)) ≤ 240) × Sends (toBoard setup board (carriedHeader kept parameter2)) (take (kept .length) (kept .payload)) r (now (out .entry)) (now (out .exit)) ⌝ }
+fn write_carried(
+    head: Head,
+    payload: &[u8],
+    setup: Setup,
+    board: usize,
+    parameter2: u8,
+    out: &mut [u8],
+) -> Writing
+    ensures { λ r. ⌜ Sends (toBoard setup board (carriedHeader (keptAs head (now (payload .entry))) parameter2)) (take (head .length) (now (payload .entry))) r (now (out .entry)) (now (out .exit)) ⌝ }
 {
     let header = Header {
         destination: 0,
         source: 0,
         subnet: 0,
-        method: kept.method,
-        parameter1: kept.parameter,
+        method: head.method,
+        parameter1: head.parameter,
         parameter2: parameter2,
-        kind: kept.kind,
-        message: kept.message,
-        packet: kept.packet,
+        kind: head.kind,
+        message: head.message,
+        packet: head.packet,
     };
-    let payload = kept.payload;
-    let n = ground::least(kept.length, 240);
+    let n = ground::least(head.length, payload.len());
     message::write_to(setup, board, header, &payload[..n], out)
 }
 
 // Sends the message that is kept to a board.
 fn send_carried(
-    coordinator: Coordinator,
-    table: Table,
+    seen: Seen,
+    payload: &[u8],
     board: usize,
     exchange: Exchange,
     requester: usize,
     parameter2: u8,
     out: &mut [u8],
-) -> Stepped
-    ensures { λ r. ⌜ Leaves (sending (dueCarried coordinator (table .nodes) board exchange requester parameter2) coordinator (table .nodes) (length (now (out .entry)))) r (now (out .entry)) (now (out .exit)) ⌝ }
+) -> Change
+    ensures { λ r. ⌜ Decides seen (OfKept (now (payload .entry))) (λ c t. sending (dueCarried c t board exchange requester parameter2) c t (length (now (out .entry)))) r (now (out .entry)) (now (out .exit)) ⌝ }
 {
-    let writing = write_carried(coordinator.kept, coordinator.setup, board, parameter2, out);
-    let next = waiting(coordinator, board, exchange, requester);
+    let state = seen.state;
+    let writing = write_carried(state.head, payload, seen.setup, board, parameter2, out);
+    let next = waiting(board, exchange, requester);
     let answer = Answer::Wait(board, exchange);
-    sent(writing, coordinator, table, next, table, answer)
+    sent(writing, next, 0, Edit::Nothing, answer)
 }
 
 // Forwards the request to a board: parameter 2 is the requester's index.
 fn send_forward(
-    coordinator: Coordinator,
-    table: Table,
+    seen: Seen,
+    payload: &[u8],
+    kinds: &[u8; 40],
     board: usize,
     requester: usize,
     out: &mut [u8],
-) -> Stepped
-    ensures { λ r. ⌜ Leaves (sending (dueCarried coordinator (table .nodes) board Forward requester (indexOf (table .nodes) requester)) coordinator (table .nodes) (length (now (out .entry)))) r (now (out .entry)) (now (out .exit)) ⌝ }
+) -> Change
+    ensures { λ r. ⌜ Decides seen (λ c t. OfKept (now (payload .entry)) c t × OfTypes (now (kinds .entry)) c t) (λ c t. sending (dueCarried c t board Forward requester (indexOf t requester)) c t (length (now (out .entry)))) r (now (out .entry)) (now (out .exit)) ⌝ }
 {
-    let index = board::index_of(table, requester);
+    let index = board::index_of(kinds, requester);
     send_carried(
-        coordinator,
-        table,
+        seen,
+        payload,
         board,
         Exchange::Forward,
         requester,
@@ -124,109 +121,106 @@ fn send_forward(
     )
 }
 
-// Returns the response to the board that made the request: parameter 2 is 0.
-fn send_return(coordinator: Coordinator, table: Table, board: usize, out: &mut [u8]) -> Stepped
-    ensures { λ r. ⌜ Leaves (sending (dueCarried coordinator (table .nodes) board Return 0 0) coordinator (table .nodes) (length (now (out .entry)))) r (now (out .entry)) (now (out .exit)) ⌝ }
-{
-    send_carried(coordinator, table, board, Exchange::Return, 0, 0, out)
-}
-
 // Sends the node list to a board, clearing its mark.
-fn send_list(coordinator: Coordinator, table: Table, board: usize, out: &mut [u8]) -> Stepped
-    ensures { λ r. ⌜ Leaves (sending (dueList coordinator (table .nodes) board) coordinator (table .nodes) (length (now (out .entry)))) r (now (out .entry)) (now (out .exit)) ⌝ }
+fn send_list(seen: Seen, kinds: &[u8; 40], board: usize, out: &mut [u8]) -> Change
+    ensures { λ r. ⌜ Decides seen (OfTypes (now (kinds .entry))) (λ c t. sending (dueList c t board) c t (length (now (out .entry)))) r (now (out .entry)) (now (out .exit)) ⌝ }
 {
-    let writing = message::write_list(coordinator.setup, table, board, out);
-    let next = waiting(coordinator, board, Exchange::List, 0);
-    let unmarked = board::unmark_at(table, board);
+    let writing = message::write_list(seen.setup, kinds, seen.top, board, out);
+    let next = waiting(board, Exchange::List, 0);
     let answer = Answer::Wait(board, Exchange::List);
-    sent(writing, coordinator, table, next, unmarked, answer)
+    sent(writing, next, board, Edit::Unmarked, answer)
 }
 
 // Offers a board the bus.
-fn send_offer(coordinator: Coordinator, table: Table, board: usize, out: &mut [u8]) -> Stepped
-    ensures { λ r. ⌜ Leaves (sending (dueOffer coordinator (table .nodes) board) coordinator (table .nodes) (length (now (out .entry)))) r (now (out .entry)) (now (out .exit)) ⌝ }
+fn send_offer(seen: Seen, kinds: &[u8; 40], board: usize, out: &mut [u8]) -> Change
+    ensures { λ r. ⌜ Decides seen (OfTypes (now (kinds .entry))) (λ c t. sending (dueOffer c t board) c t (length (now (out .entry)))) r (now (out .entry)) (now (out .exit)) ⌝ }
 {
-    let writing = message::write_signed(coordinator.setup, table, board, 0, out);
-    let next = coordinator::offered(coordinator, board);
+    let writing = message::write_signed(seen.setup, kinds, board, 0, out);
     let answer = Answer::Wait(board, Exchange::Offer);
-    sent(writing, coordinator, table, next, table, answer)
+    sent(writing, Move::Offered(board), 0, Edit::Nothing, answer)
 }
 
-// Our own next transmission: the list to the lowest position owed, else an offer to the next listed position.
-fn send_own(coordinator: Coordinator, table: Table, out: &mut [u8]) -> Stepped
-    ensures { λ r. ⌜ Leaves (sending (dueOwn coordinator (table .nodes)) coordinator (table .nodes) (length (now (out .entry)))) r (now (out .entry)) (now (out .exit)) ⌝ }
+// Our own next transmission: the list to the lowest position owed, else an offer to the next listed position. Nobody is
+// listed above the highest listed position, so nobody is looked for there.
+fn send_own(seen: Seen, kinds: &[u8; 40], marks: &[u8; 40], out: &mut [u8]) -> Change
+    ensures { λ r. ⌜ Decides seen (OfMarks (now (kinds .entry)) (now (marks .entry))) (λ c t. sending (dueOwn c t) c t (length (now (out .entry)))) r (now (out .entry)) (now (out .exit)) ⌝ }
 {
-    let k = coordinator.setup.k;
-    let owed = board::lowest(table, Wanted::Owed, k);
+    let state = seen.state;
+    let top = seen.top;
+    let owed = board::lowest_owed(marks, top);
     if 0 < owed {
-        return send_list(coordinator, table, owed, out);
+        return send_list(seen, kinds, owed, out);
     }
-    let board = board::next_listed(table, k, coordinator.last);
-    send_offer(coordinator, table, board, out)
+    let board = board::next_listed(kinds, top, state.last);
+    send_offer(seen, kinds, board, out)
 }
 
-// The coordinator that waits in the exchange by which a board joins.
-fn seeking(coordinator: Coordinator, position: usize, part: Part) -> Coordinator
-    ensures { λ r. ⌜ r ≡ withPhase coordinator (Phase.Seeking position part) ⌝ }
+// The coordinator waits in the exchange by which a board joins.
+fn seeking(position: usize, part: Part) -> Move
+    ensures { λ r. ⌜ r ≡ To (Phase.Seeking position part) ⌝ }
 {
     let phase = Phase::Seeking {
         position: position,
         part: part,
     };
-    coordinator::with_phase(coordinator, phase)
+    Move::To(phase)
 }
 
 // Asks whoever has the address at stake for his ID.
-fn send_identify(coordinator: Coordinator, table: Table, position: usize, out: &mut [u8]) -> Stepped
-    ensures { λ r. ⌜ Leaves (sending (dueIdentify coordinator (table .nodes) position) coordinator (table .nodes) (length (now (out .entry)))) r (now (out .entry)) (now (out .exit)) ⌝ }
+fn send_identify(seen: Seen, kinds: &[u8; 40], position: usize, out: &mut [u8]) -> Change
+    ensures { λ r. ⌜ Decides seen (OfTypes (now (kinds .entry))) (λ c t. sending (dueIdentify c t position) c t (length (now (out .entry)))) r (now (out .entry)) (now (out .exit)) ⌝ }
 {
-    let writing = message::write_identify(coordinator.setup, table, position, out);
-    let next = seeking(coordinator, position, Part::Identify);
+    let writing = message::write_identify(seen.setup, kinds, position, out);
+    let next = seeking(position, Part::Identify);
     let answer = Answer::Seek(position, Seek::Identify);
-    sent(writing, coordinator, table, next, table, answer)
+    sent(writing, next, 0, Edit::Nothing, answer)
 }
 
 // Gives what was discovered the address at stake.
-fn send_assign(coordinator: Coordinator, table: Table, position: usize, out: &mut [u8]) -> Stepped
-    ensures { λ r. ⌜ Leaves (sending (dueAssign coordinator (table .nodes) position) coordinator (table .nodes) (length (now (out .entry)))) r (now (out .entry)) (now (out .exit)) ⌝ }
+fn send_assign(seen: Seen, position: usize, out: &mut [u8]) -> Change
+    ensures { λ r. ⌜ Decides seen (λ c t. Unit {0}) (λ c t. sending (dueAssign c t position) c t (length (now (out .entry)))) r (now (out .entry)) (now (out .exit)) ⌝ }
 {
-    let found = coordinator.found;
-    let writing = message::write_assign(coordinator.setup, position, found.mac, found.session, out);
-    let next = seeking(coordinator, position, Part::Assign);
+    let state = seen.state;
+    let found = state.found;
+    let writing = message::write_assign(seen.setup, position, found.mac, found.session, out);
+    let next = seeking(position, Part::Assign);
     let answer = Answer::Seek(position, Seek::Assign);
-    sent(writing, coordinator, table, next, table, answer)
+    sent(writing, next, 0, Edit::Nothing, answer)
 }
 
 // What the exchange by which a board joins has due, in a part that does not wait.
-fn send_seek(
-    part: Part,
-    coordinator: Coordinator,
-    table: Table,
-    position: usize,
-    out: &mut [u8],
-) -> Stepped
+fn send_seek(part: Part, seen: Seen, kinds: &[u8; 40], position: usize, out: &mut [u8]) -> Change
     requires { ⌜ isWaiting part ≡ false ⌝ }
-    ensures { λ r. ⌜ Leaves (sending (dueSeek part coordinator (table .nodes) position) coordinator (table .nodes) (length (now (out .entry)))) r (now (out .entry)) (now (out .exit)) ⌝ }
+    ensures { λ r. ⌜ Decides seen (OfTypes (now (kinds .entry))) (λ c t. sending (dueSeek part c t position) c t (length (now (out .entry)))) r (now (out .entry)) (now (out .exit)) ⌝ }
 {
     match part {
-        Part::IdentifyDue => send_identify(coordinator, table, position, out),
-        _ => send_assign(coordinator, table, position, out),
+        Part::IdentifyDue => send_identify(seen, kinds, position, out),
+        _ => send_assign(seen, position, out),
     }
 }
 
 // The next transmission where no wait is on: a return or a forward that is due, what an exchange by which a board joins has
-// due, else our own.
-fn send_due(phase: Phase, coordinator: Coordinator, table: Table, out: &mut [u8]) -> Stepped
+// due, else our own. A return's parameter 2 is 0.
+fn send_due(
+    phase: Phase,
+    seen: Seen,
+    payload: &[u8],
+    kinds: &[u8; 40],
+    marks: &[u8; 40],
+    out: &mut [u8],
+) -> Change
     requires { ⌜ isAwaiting phase ≡ false ⌝ }
-    ensures { λ r. ⌜ Leaves (sending (dueIn phase coordinator (table .nodes)) coordinator (table .nodes) (length (now (out .entry)))) r (now (out .entry)) (now (out .exit)) ⌝ }
+    ensures { λ r. ⌜ Decides seen (λ c t. (phase ≡ phaseOf (c .stand)) × (now (payload .entry) ≡ c .kept .payload) × OfMarks (now (kinds .entry)) (now (marks .entry)) c t) (λ c t. sending (dueIn phase c t) c t (length (now (out .entry)))) r (now (out .entry)) (now (out .exit)) ⌝ }
 {
     match phase {
-        Phase::ReturnDue { board } => send_return(coordinator, table, board, out),
-        Phase::ForwardDue { board, requester } => {
-            send_forward(coordinator, table, board, requester, out)
+        Phase::ReturnDue { board } => {
+            send_carried(seen, payload, board, Exchange::Return, 0, 0, out)
         }
-        Phase::Seeking { position, part } => send_seek(part, coordinator, table, position, out),
-        _ => send_own(coordinator, table, out),
+        Phase::ForwardDue { board, requester } => {
+            send_forward(seen, payload, kinds, board, requester, out)
+        }
+        Phase::Seeking { position, part } => send_seek(part, seen, kinds, position, out),
+        _ => send_own(seen, kinds, marks, out),
     }
 }
 
@@ -274,19 +268,24 @@ fn is_due(phase: Phase) -> bool
     }
 }
 
-// Writes the panel's next transmission, and waits for the answer to it.
-pub fn turn(coordinator: Coordinator, table: Table, out: &mut [u8]) -> Stepped
-    ensures { λ r. ⌜ (shown r ≡ shows (turnOf coordinator (table .nodes) (length (now (out .entry))))) × (now (out .exit) ≡ laid (turnOf coordinator (table .nodes) (length (now (out .entry))) .bytes) (now (out .entry))) ⌝ }
+// Writes the panel's next transmission, and waits for the answer to it. The payload is the one that is kept.
+pub fn turn(
+    seen: Seen,
+    payload: &[u8],
+    kinds: &[u8; 40],
+    marks: &[u8; 40],
+    out: &mut [u8],
+) -> Change
+    ensures { λ r. ⌜ Decides seen (λ c t. (now (payload .entry) ≡ c .kept .payload) × OfMarks (now (kinds .entry)) (now (marks .entry)) c t) (λ c t. turnOf c t (length (now (out .entry)))) r (now (out .entry)) (now (out .exit)) ⌝ }
 {
-    if !coordinator::fits(coordinator, table) {
-        return steps::refusing(coordinator, table, Refusal::StateUnfit);
-    }
-    let phase = coordinator::phase_of(coordinator.stand);
+    let state = seen.state;
+    let stand = state.stand;
+    let phase = coordinator::phase_of(stand);
     if is_awaiting(phase) {
-        return steps::refusing(coordinator, table, Refusal::AwaitingReply);
+        return change::refusing(Refusal::AwaitingReply);
     }
-    if !board::some_listed(table) & !is_due(phase) {
-        return steps::refusing(coordinator, table, Refusal::NobodyListed);
+    if (seen.top == 0) & !is_due(phase) {
+        return change::refusing(Refusal::NobodyListed);
     }
-    send_due(phase, coordinator, table, out)
+    send_due(phase, seen, payload, kinds, marks, out)
 }

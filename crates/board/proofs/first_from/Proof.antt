@@ -4,25 +4,23 @@ use mathlib.Core.Path.{_≡_, refl}
 use Rattle.ground.specs.Below.{firstOr, upFrom}
 use Rattle.ground.proofs.Firsts.{firsts, first-hit, first-miss}
 use Rattle.board.specs.Wanted.{wantedAt}
-use Rattle.board.proofs.Positions.{looked}
+use Rattle.board.proofs.Columns.{looked-in}
 use borrow.Author.Needs.{needs}
+use Rattle.board.specs.Columns.{typed}
 use Rattle.board.proofs.first_from.Statement.{statement}
 use Rattle.board.proofs.first_from.Tie as tie
 
 abbrev Inv-loop : tie.InvT-loop
-Inv-loop wanted from count table p₀ left₀ p left = (0 < p) × (p + left ≤ 41) × (firstOr 0 (wantedAt wanted (table .nodes)) (upFrom from count) ≡ firstOr 0 (wantedAt wanted (table .nodes)) (upFrom p left))
+Inv-loop kinds wanted from count p₀ left₀ p left = (0 < p) × (p + left ≤ 41) × (firstOr 0 (wantedAt wanted (typed kinds)) (upFrom from count) ≡ firstOr 0 (wantedAt wanted (typed kinds)) (upFrom p left))
 
 abbrev μ-loop : tie.MeasureT-loop
-μ-loop wanted from count table p₀ left₀ p left = left
+μ-loop kinds wanted from count p₀ left₀ p left = left
 
 loop-holds : tie.Need-loop-holds Inv-loop μ-loop
 loop-holds c = (search needs, search needs, refl)
 
 sub-i : tie.Need-sub-i Inv-loop μ-loop
 sub-i c = search needs
-
-mul-is-wanted : tie.Need-mul-is-wanted Inv-loop μ-loop
-mul-is-wanted c = search needs
 
 element-copy-out-is-wanted : tie.Need-element-copy-out-is-wanted Inv-loop μ-loop
 element-copy-out-is-wanted c = search needs
@@ -31,7 +29,7 @@ is-wanted-requires : tie.Need-is-wanted-requires Inv-loop μ-loop
 is-wanted-requires c κs = search needs
 
 returns : tie.Need-returns Inv-loop μ-loop
-returns c = first-hit _ _ _ _ _ _ (c .before .before .before .before .loop .inv .2) (c .before .before .before .loop-test .taken) (looked _ (c .before .before .before .before .before .args .wanted) _ (c .before .is-wanted .ensures) (c .before .before .before .before .loop .inv .0)) (c .if1 .taken)
+returns c = first-hit _ _ _ _ _ _ (c .before .before .before .before .loop .inv .2) (c .before .before .before .loop-test .taken) (looked-in _ (c .before .before .before .before .before .args .wanted) _ (c .before .is-wanted .ensures) (c .before .before .before .before .loop .inv .0) (search needs)) (c .if1 .taken)
 
 add-p : tie.Need-add-p Inv-loop μ-loop
 add-p c = search needs
@@ -43,7 +41,7 @@ loop-less : tie.Need-loop-less Inv-loop μ-loop
 loop-less c = search needs
 
 loop-again : tie.Need-loop-again Inv-loop μ-loop
-loop-again c = (search needs, search needs, first-miss _ _ _ _ _ _ (c .before .before .before .before .loop .inv .2) (c .before .before .before .loop-test .taken) (looked _ (c .before .before .before .before .before .args .wanted) _ (c .before .is-wanted .ensures) (c .before .before .before .before .loop .inv .0)) (c .if1 .left))
+loop-again c = (search needs, search needs, first-miss _ _ _ _ _ _ (c .before .before .before .before .loop .inv .2) (c .before .before .before .loop-test .taken) (looked-in _ (c .before .before .before .before .before .args .wanted) _ (c .before .is-wanted .ensures) (c .before .before .before .before .loop .inv .0) (search needs)) (c .if1 .left))
 
 returns-2 : tie.Need-returns-2 Inv-loop μ-loop
 returns-2 c = search firsts
@@ -56,7 +54,6 @@ first-from-spec =
     μ-loop
     loop-holds
     sub-i
-    mul-is-wanted
     element-copy-out-is-wanted
     is-wanted-requires
     returns

@@ -6,16 +6,17 @@ use Rattle.ground.proofs.Loops.{loops, count-step}
 use Rattle.board.specs.declared.Wanted.the-variants.{Kind}
 use Rattle.board.specs.Table.{at}
 use Rattle.board.specs.Wanted.{ofKindBelow}
-use Rattle.board.proofs.Positions.{looked}
+use Rattle.board.proofs.Columns.{looked-in}
 use borrow.Author.Needs.{needs}
+use Rattle.board.specs.Columns.{typed}
 use Rattle.board.proofs.kind_below.Statement.{statement}
 use Rattle.board.proofs.kind_below.Tie as tie
 
 abbrev Inv-loop : tie.InvT-loop
-Inv-loop kind position table n₀ p₀ n p = (0 < p) × (p ≤ position) × (n < p) × (n ≡ ofKindBelow (table .nodes) kind p)
+Inv-loop kinds kind position n₀ p₀ n p = (0 < p) × (p ≤ position) × (n < p) × (n ≡ ofKindBelow (typed kinds) kind p)
 
 abbrev μ-loop : tie.MeasureT-loop
-μ-loop kind position table n₀ p₀ n p = position - p
+μ-loop kinds kind position n₀ p₀ n p = position - p
 
 loop-holds : tie.Need-loop-holds Inv-loop μ-loop
 unfolding count at
@@ -23,9 +24,6 @@ loop-holds c = (search needs, search needs, search needs, refl)
 
 sub-i : tie.Need-sub-i Inv-loop μ-loop
 sub-i c = search needs
-
-mul-is-wanted : tie.Need-mul-is-wanted Inv-loop μ-loop
-mul-is-wanted c = search needs
 
 element-copy-out-is-wanted : tie.Need-element-copy-out-is-wanted Inv-loop μ-loop
 element-copy-out-is-wanted c = search needs
@@ -46,7 +44,7 @@ loop-less : tie.Need-loop-less Inv-loop μ-loop
 loop-less c = search needs
 
 loop-again : tie.Need-loop-again Inv-loop μ-loop
-loop-again c = (search needs, search needs, search needs, count-step _ _ (c .before .before .before .before .loop .inv .3) (c .one-if .ensures .0 ∙ ap one (looked _ (Kind _) _ (c .before .is-wanted .ensures) (c .before .before .before .before .loop .inv .0))))
+loop-again c = (search needs, search needs, search needs, count-step _ _ (c .before .before .before .before .loop .inv .3) (c .one-if .ensures .0 ∙ ap one (looked-in _ (Kind _) _ (c .before .is-wanted .ensures) (c .before .before .before .before .loop .inv .0) (search needs))))
 
 returns : tie.Need-returns Inv-loop μ-loop
 returns c = search loops
@@ -59,7 +57,6 @@ kind-below-spec =
     μ-loop
     loop-holds
     sub-i
-    mul-is-wanted
     element-copy-out-is-wanted
     is-wanted-requires
     one-if-requires

@@ -7,17 +7,17 @@ use Rattle.ground.proofs.Choices.{yes, no}
 use Rattle.join.proofs.chosen.Statement.{statement}
 use Rattle.join.proofs.chosen.Tie as tie
 
-known-requires : tie.Need-known-requires
-known-requires c κs = search needs
+lowest-mac-requires : tie.Need-lowest-mac-requires
+lowest-mac-requires c κs = search needs
 
 lowest-requires : tie.Need-lowest-requires
 lowest-requires c κs = search needs
 
 returns : tie.Need-returns
-returns c = yes _ (ap (ltb 0) (c .before .known .ensures)) (lt-ltb 0 _ (c .if1 .taken)) (c .before .known .ensures)
+returns c = yes _ (ap (ltb 0) (c .before .lowest-mac .ensures)) (lt-ltb 0 _ (c .if1 .taken)) (c .before .lowest-mac .ensures)
 
 returns-2 : tie.Need-returns-2
-returns-2 c = no _ (ap (ltb 0) (c .before .before .known .ensures)) (le-ltb 0 _ (c .before .if1 .left)) (search needs)
+returns-2 c = no _ (ap (ltb 0) (c .before .before .lowest-mac .ensures)) (le-ltb 0 _ (c .before .if1 .left)) (search needs)
 
 pub chosen-spec : {M : Type 1} → statement M
-chosen-spec = tie.close (tie.spec known-requires lowest-requires returns returns-2)
+chosen-spec = tie.close (tie.spec lowest-mac-requires lowest-requires returns returns-2)

@@ -1,9 +1,7 @@
--- `lent::amending` meets its contract: one of forty records is changed, any other count is refused.
-use Prim.Native.Nat.{ℕ}
-use mathlib.Core.Path.{ap}
+-- `lent::amending` meets its contract: one of forty records is edited, any other count is refused.
+use mathlib.Core.Path.{refl}
 use borrow.Author.Tests.{eq-eqb, ne-eqb}
 use Rattle.ground.proofs.Choices.{choose-yes, choose-no}
-use Rattle.lent.specs.Amend.{amends}
 use borrow.Author.Needs.{needs}
 use Rattle.lent.proofs.amending.Statement.{statement}
 use Rattle.lent.proofs.amending.Tie as tie
@@ -12,13 +10,23 @@ plainly-requires : tie.Need-plainly-requires
 plainly-requires c κs = search needs
 
 returns : tie.Need-returns
-returns c = choose-no _ _ _ _ (ne-eqb _ 40 (c .before .if1 .taken)) (ap (λ (n : ℕ). amends n (c .before .before .args .table .nodes)) (c .plainly .ensures))
+returns c = choose-no _ _ _ _ (ne-eqb _ 40 (c .before .if1 .taken)) (rw (c .plainly .ensures) refl)
+
+index-at-requires : tie.Need-index-at-requires
+index-at-requires c κs = search needs
 
 plainly-requires-2 : tie.Need-plainly-requires-2
 plainly-requires-2 c κs = search needs
 
 returns-2 : tie.Need-returns-2
-returns-2 c = choose-yes _ _ _ _ (eq-eqb _ 40 (c .before .if1 .left)) (ap (λ (n : ℕ). amends n (c .before .before .args .changed .nodes)) (c .plainly2 .ensures))
+returns-2 c = choose-yes _ _ _ _ (eq-eqb _ 40 (c .before .before .if1 .left)) (rw (c .before .index-at .ensures, c .plainly2 .ensures) refl)
 
 pub amending-spec : {M : Type 1} → statement M
-amending-spec = tie.close (tie.spec plainly-requires returns plainly-requires-2 returns-2)
+amending-spec =
+    tie.close
+    (tie.spec
+    plainly-requires
+    returns
+    index-at-requires
+    plainly-requires-2
+    returns-2)

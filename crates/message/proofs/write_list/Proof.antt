@@ -2,6 +2,8 @@
 use native.Mathlib.Omega.{arith}
 use mathlib.Core.Path.{refl}
 use lib.ListN.{replicate, length-take}
+use denote.Ref.{now}
+use Rattle.board.specs.Columns.{typed}
 use Rattle.message.proofs.Sent.{list-fits, list-front}
 use borrow.Author.Needs.{needs}
 use Rattle.message.proofs.write_list.Statement.{statement}
@@ -17,10 +19,10 @@ list-length-requires : tie.Need-list-length-requires
 list-length-requires c κs = search needs
 
 array-share-prefix-payload : tie.Need-array-share-prefix-payload
-array-share-prefix-payload c = omega (arith, list-fits (c .before .before .before .before .before .args .table .nodes) (c .list-length .ensures))
+array-share-prefix-payload c = omega (arith, list-fits (c .before .before .before .before .before .args .top) (c .list-length .ensures))
 
 slice-aggregate-write-own : tie.Need-slice-aggregate-write-own
-slice-aggregate-write-own c = simp length-take (omega (arith, list-fits (c .before .before .before .before .before .before .args .table .nodes) (c .before .list-length .ensures)))
+slice-aggregate-write-own c = simp length-take (omega (arith, list-fits (c .before .before .before .before .before .before .args .top) (c .before .list-length .ensures)))
 
 write-own-requires : tie.Need-write-own-requires
 write-own-requires c κs = search needs
@@ -31,7 +33,7 @@ same-length c = search needs
 returns : tie.Need-returns
 returns c =
     let args = c .before .before .before .before .before .before .before .before .before .before .args in
-    let front = list-front (args .setup .internal) (args .table .nodes) (replicate 41 0) _ refl (c .before .before .before .before .before .before .before .write-list .ensures .1) (c .before .before .before .before .before .list-length .ensures) in
+    let front = list-front (args .top) (args .setup .internal) (typed (now (args .kinds))) (replicate 41 0) _ refl (c .before .before .before .before .before .before .before .write-list .ensures .1) (c .before .before .before .before .before .list-length .ensures) in
     rw front at (c .before .before .write-own .ensures)
 
 pub write-list-spec : {M : Type 1} → statement M

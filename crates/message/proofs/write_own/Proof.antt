@@ -1,7 +1,9 @@
 -- `message::write_own` meets its contract: an index fits a byte, and the header sent to the board is our own.
 use native.Mathlib.Omega.{arith}
-use lib.ListN.{length-map}
+use denote.Ref.{now}
+use Rattle.board.specs.Columns.{typed}
 use Rattle.board.proofs.Index.{index-within}
+use Rattle.board.proofs.Columns.{typed-length}
 use Rattle.message.specs.Message.{toBoard, ownHeader}
 use borrow.Author.Needs.{needs}
 use Rattle.message.proofs.write_own.Statement.{statement}
@@ -11,7 +13,7 @@ index-of-requires : tie.Need-index-of-requires
 index-of-requires c κs = search needs
 
 cast-t10 : tie.Need-cast-t10
-cast-t10 c = record { fits = omega (arith, c .index-of .ensures, index-within (c .before .before .before .args .table .nodes) (c .before .before .before .args .board) (simp length-map at (c .before .before .before .good .1 .0 .1 .1 .0 .1 .0 .1))) }
+cast-t10 c = record { fits = omega (arith, c .index-of .ensures, index-within (typed (now (c .before .before .before .args .kinds))) (c .before .before .before .args .board) (typed-length _)) }
 
 write-to-requires : tie.Need-write-to-requires
 write-to-requires c κs = search needs

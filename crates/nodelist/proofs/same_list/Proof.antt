@@ -5,37 +5,35 @@ use native.Mathlib.Omega.{arith}
 use mathlib.Core.Path.{_≡_}
 use lib.ListN.{length}
 use Rattle.ground.specs.Below.{all}
-use Rattle.nodelist.specs.List.{listLength, sameByte}
-use Rattle.nodelist.proofs.Bytes.{highest-within, other-length, same-begun, same-step, same-end}
+use Rattle.board.specs.Columns.{typed}
+use Rattle.nodelist.specs.List.{lengthTo, sameByteTo}
+use Rattle.nodelist.proofs.Bytes.{other-length, same-begun, same-step, same-end}
 use Rattle.nodelist.proofs.same_list.Statement.{statement}
 use Rattle.nodelist.proofs.same_list.Tie as tie
 
 abbrev Inv-loop : tie.InvT-loop
-Inv-loop internal received table n same₀ i₀ same i = (1 ≤ i) × (i ≤ n) × (n ≤ 41) × (n ≡ listLength (table .nodes)) × (n ≡ length received) × (same ≡ all (sameByte internal (table .nodes) received) i)
+Inv-loop internal kinds top received n same₀ i₀ same i = (1 ≤ i) × (i ≤ n) × (n ≤ 41) × (n ≡ lengthTo top) × (n ≡ length received) × (same ≡ all (sameByteTo top internal (typed kinds) received) i)
 
 abbrev μ-loop : tie.MeasureT-loop
-μ-loop internal received table n same₀ i₀ same i = n - i
+μ-loop internal kinds top received n same₀ i₀ same i = n - i
 
 list-length-requires : tie.Need-list-length-requires Inv-loop μ-loop
 list-length-requires c κs = search needs
 
 returns : tie.Need-returns Inv-loop μ-loop
-returns c = other-length _ _ _ (c .before .list-length .ensures) (c .if1 .taken)
+returns c = other-length _ _ _ _ (c .before .list-length .ensures) (c .if1 .taken)
 
 shared-slice-read-same : tie.Need-shared-slice-read-same Inv-loop μ-loop
 shared-slice-read-same c = search needs
 
 loop-holds : tie.Need-loop-holds Inv-loop μ-loop
-loop-holds c = (search needs, search needs, omega (arith, highest-within (c .before .before .before .before .args .t2 .nodes)), search needs, search needs, same-begun _ _ _)
+loop-holds c = (search needs, search needs, omega arith, search needs, search needs, same-begun _ _ _ _)
 
 sub-p : tie.Need-sub-p Inv-loop μ-loop
 sub-p c = search needs
 
 shared-slice-read-same-2 : tie.Need-shared-slice-read-same-2 Inv-loop μ-loop
 shared-slice-read-same-2 c = search needs
-
-mul-same : tie.Need-mul-same Inv-loop μ-loop
-mul-same c = search needs
 
 element-copy-out-same : tie.Need-element-copy-out-same Inv-loop μ-loop
 element-copy-out-same c = search needs
@@ -47,10 +45,10 @@ loop-less : tie.Need-loop-less Inv-loop μ-loop
 loop-less c = search needs
 
 loop-again : tie.Need-loop-again Inv-loop μ-loop
-loop-again c = (search needs, search needs, search needs, search needs, search needs, same-step _ _ _ _ (c .before .before .loop .inv .5) (c .before .before .loop .inv .0) (c .before .before .loop .inv .3) (c .before .loop-test .taken))
+loop-again c = (search needs, search needs, search needs, search needs, search needs, same-step _ _ _ _ _ (c .before .before .before .loop .inv .5) (c .before .before .before .loop .inv .0) (c .before .before .before .loop .inv .3) (c .before .before .loop-test .taken))
 
 returns-2 : tie.Need-returns-2 Inv-loop μ-loop
-returns-2 c = same-end _ _ _ _ (c .before .loop .inv .5) (c .before .loop .inv .3) (c .before .loop .inv .4) (c .before .loop .inv .1) (c .loop-test .left)
+returns-2 c = same-end _ _ _ _ _ (c .before .loop .inv .5) (c .before .loop .inv .3) (c .before .loop .inv .4) (c .before .loop .inv .1) (c .loop-test .left)
 
 pub same-list-spec : {M : Type 1} → statement M
 same-list-spec =
@@ -64,7 +62,6 @@ same-list-spec =
     loop-holds
     sub-p
     shared-slice-read-same-2
-    mul-same
     element-copy-out-same
     add-i
     loop-less

@@ -1,8 +1,7 @@
 -- `receive::acking` meets its contract, by what the writer of the ACK gave.
-use mathlib.Core.Path.{refl, _∙_}
 use denote.Ref.{now}
-use Rattle.steps.specs.After.{told}
-use Rattle.receive.proofs.Leaving.{leaves-acked}
+use Rattle.frame.specs.declared.Writing.the-variants.{Written, Refused}
+use Rattle.receive.proofs.Leaving.{shows-acking}
 use borrow.Author.Needs.{needs}
 use Rattle.receive.proofs.acking.Statement.{statement}
 use Rattle.receive.proofs.acking.Tie as tie
@@ -13,11 +12,8 @@ write-signed-requires c κs = search needs
 enum-known-n : tie.Need-enum-known-n
 enum-known-n c = search needs
 
-hear-requires : tie.Need-hear-requires
-hear-requires c κs = search needs
-
-leaving-requires : tie.Need-leaving-requires
-leaving-requires c κs = search needs
+changing-requires : tie.Need-changing-requires
+changing-requires c κs = search needs
 
 enum-known-refusal : tie.Need-enum-known-refusal
 enum-known-refusal c = search needs
@@ -30,8 +26,8 @@ same-length c = search needs
 
 returns : tie.Need-returns
 returns c =
-    let args = c .before .before .before .before .before .before .before .before .before .before .args in
-    leaves-acked (args .coordinator) (args .table .nodes) (args .board) (told (args .answer)) (args .after) (c .leaving .result) (now (args .out)) _ (c .before .before .before .before .before .before .before .write-signed .result) (c .before .before .before .before .before .before .before .write-signed .ensures) (rw (c .before .before .before .n .given .1) (c .leaving .ensures ∙ rw (c .before .hear .ensures) refl))
+    let args = c .before .before .before .before .before .before .before .before .before .args in
+    λ b co t s k. rw (c .changing .ensures) (shows-acking s k b (args .board) (args .answer) (args .after) (now (args .out)) _ (Written (c .before .before .n .given .0 .0)) (rw (c .before .before .n .given .1) at (c .before .before .before .before .before .before .write-signed .ensures)))
 
 same-length-2 : tie.Need-same-length-2
 same-length-2 c = search needs
@@ -39,7 +35,7 @@ same-length-2 c = search needs
 returns-2 : tie.Need-returns-2
 returns-2 c =
     let args = c .before .before .before .before .before .before .before .before .before .args in
-    leaves-acked (args .coordinator) (args .table .nodes) (args .board) (told (args .answer)) (args .after) (c .refusing .result) (now (args .out)) _ (c .before .before .before .before .before .before .write-signed .result) (c .before .before .before .before .before .before .write-signed .ensures) (rw (c .before .before .refusal .given .1) (c .refusing .ensures))
+    λ b co t s k. rw (c .refusing .ensures) (shows-acking s k b (args .board) (args .answer) (args .after) (now (args .out)) _ (Refused (c .before .before .refusal .given .0 .0)) (rw (c .before .before .refusal .given .1) at (c .before .before .before .before .before .before .write-signed .ensures)))
 
 pub acking-spec : {M : Type 1} → statement M
 acking-spec =
@@ -47,8 +43,7 @@ acking-spec =
     (tie.spec
     write-signed-requires
     enum-known-n
-    hear-requires
-    leaving-requires
+    changing-requires
     enum-known-refusal
     refusing-requires
     same-length

@@ -1,7 +1,11 @@
 -- `receive::acknowledged` meets its contract: only a forward's wait goes on.
 use mathlib.Core.Path.{refl, sym, ap, _∙_}
+use Rattle.coordinator.specs.declared.Phase.the-variants.{Resting, Awaiting}
+use mathlib.Core.Bool.{true}
+use Rattle.steps.specs.declared.Answer.the-variants.{Wait, Rest}
+use Rattle.change.specs.declared.Move.the-variants.{To}
 use Rattle.steps.specs.After.{shows}
-use Rattle.receive.proofs.Leaving.{acked-ends}
+use Rattle.receive.proofs.Leaving.{acked-ends, makes-heard}
 use borrow.Author.Needs.{needs}
 use Rattle.receive.proofs.acknowledged.Statement.{statement}
 use Rattle.receive.proofs.acknowledged.Tie as tie
@@ -9,34 +13,28 @@ use Rattle.receive.proofs.acknowledged.Tie as tie
 enum-told : tie.Need-enum-told
 enum-told c = search needs
 
-with-phase-requires : tie.Need-with-phase-requires
-with-phase-requires c κs = search needs
+hearing-requires : tie.Need-hearing-requires
+hearing-requires c κs = search needs
 
-leaving-requires : tie.Need-leaving-requires
-leaving-requires c κs = search needs
-
-with-phase-requires-2 : tie.Need-with-phase-requires-2
-with-phase-requires-2 c κs = search needs
-
-resting-requires : tie.Need-resting-requires
-resting-requires c κs = search needs
+hearing-requires-2 : tie.Need-hearing-requires-2
+hearing-requires-2 c κs = search needs
 
 returns : tie.Need-returns
-returns c = rw (c .before .before .enum-told .given .1) (c .leaving .ensures ∙ rw (c .before .with-phase .ensures, c .before .before .enum-told .given .1) refl)
+returns c =
+    let args = c .before .before .before .args in
+    λ b co t k. makes-heard b co t (To (Awaiting (args .board) (args .exchange) (args .requester) true)) (args .board) (args .session) (Wait (args .board) (args .exchange)) (c .hearing .ensures) k ∙ rw (c .before .enum-told .given .1) refl
 
 returns-2 : tie.Need-returns-2
 returns-2 c =
-    let args = c .before .before .before .args in
-    rw (c .before .with-phase2 .ensures) at (c .resting .ensures) ∙ sym (ap shows (acked-ends (args .exchange) (args .board) (args .requester) (args .coordinator) (args .table .nodes) (c .before .before .match .keys2)))
+    let args = c .before .before .args in
+    λ b co t k. makes-heard b co t (To Resting) (args .board) (args .session) Rest (c .hearing2 .ensures) k ∙ sym (ap shows (acked-ends (args .exchange) (args .board) (args .requester) co _ (c .before .match .keys2)))
 
 pub acknowledged-spec : {M : Type 1} → statement M
 acknowledged-spec =
     tie.close
     (tie.spec
     enum-told
-    with-phase-requires
-    leaving-requires
-    with-phase-requires-2
-    resting-requires
+    hearing-requires
+    hearing-requires-2
     returns
     returns-2)

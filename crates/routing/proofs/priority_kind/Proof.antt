@@ -3,16 +3,17 @@ use Prim.Native.Nat.{_-_, _≤_}
 use mathlib.Core.Path.{_≡_}
 use lib.ListN.{length}
 use borrow.Author.Needs.{needs}
+use Rattle.board.specs.Columns.{typed}
 use Rattle.routing.specs.Route.{priorityKind}
 use Rattle.routing.proofs.Lists.{restKind, rest-start, rest-hit, rest-miss, rest-none}
 use Rattle.routing.proofs.priority_kind.Statement.{statement}
 use Rattle.routing.proofs.priority_kind.Tie as tie
 
 abbrev Inv-loop : tie.InvT-loop
-Inv-loop table k code kinds i₀ i = (i ≤ 5) × (length kinds ≡ 5) × (priorityKind (table .nodes) k code ≡ restKind (table .nodes) k kinds i)
+Inv-loop kinds k code list i₀ i = (i ≤ 5) × (length list ≡ 5) × (priorityKind (typed kinds) k code ≡ restKind (typed kinds) k list i)
 
 abbrev μ-loop : tie.MeasureT-loop
-μ-loop table k code kinds i₀ i = 5 - i
+μ-loop kinds k code list i₀ i = 5 - i
 
 priority-list-requires : tie.Need-priority-list-requires Inv-loop μ-loop
 priority-list-requires c κs = search needs

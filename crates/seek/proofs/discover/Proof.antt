@@ -1,49 +1,60 @@
--- `seek::discover` meets its contract: a verdict that refuses refuses the step, and one that does not leaves it to the search.
-use mathlib.Core.Path.{refl, sym, ap, _∙_}
+-- `seek::discover` meets its contract: the two tests in the order of the rules, and past them the search.
+use mathlib.Core.Path.{refl}
 use lib.ListN.{length}
 use denote.Ref.{now}
-use Rattle.setup.specs.Setup.{toldOf}
+use Rattle.refusal.specs.declared.Refusal.the-variants.{Busy, Held}
 use Rattle.steps.proofs.Shows.{leaves-as}
-use Rattle.seek.proofs.Discovery.{moment-passed, moment-refused}
+use Rattle.change.proofs.Making.{makes-refusal, made}
+use Rattle.join.proofs.Seen.{busy-seen}
+use Rattle.seek.proofs.Seen.{held-seen}
+use Rattle.seek.proofs.Discovery.{discover-busy, discover-held, discover-searches}
 use borrow.Author.Needs.{needs}
 use Rattle.seek.proofs.discover.Statement.{statement}
 use Rattle.seek.proofs.discover.Tie as tie
 
-judge-moment-requires : tie.Need-judge-moment-requires
-judge-moment-requires c κs = search needs
-
-enum-known-judged : tie.Need-enum-known-judged
-enum-known-judged c = search needs
+is-busy-requires : tie.Need-is-busy-requires
+is-busy-requires c κs = search needs
 
 refusing-requires : tie.Need-refusing-requires
 refusing-requires c κs = search needs
 
-enum-told : tie.Need-enum-told
-enum-told c = search needs
+returns : tie.Need-returns
+returns c = λ p co t s k.
+    let args = c .before .before .before .before .before .args in
+    leaves-as (made (c .refusing .result) p co t) (now (args .out)) _ (discover-busy co t (length (now (args .out))) (s .fit) (busy-seen s (k .1) (c .before .before .is-busy .ensures)) (c .before .if1 .taken)) (makes-refusal p co t Busy (c .refusing .ensures), refl)
+
+is-held-back-requires : tie.Need-is-held-back-requires
+is-held-back-requires c κs = search needs
+
+refusing-requires-2 : tie.Need-refusing-requires-2
+refusing-requires-2 c κs = search needs
+
+returns-2 : tie.Need-returns-2
+returns-2 c = λ p co t s k.
+    let args = c .before .before .before .before .before .before .before .args in
+    leaves-as (made (c .refusing2 .result) p co t) (now (args .out)) _ (discover-held co t (length (now (args .out))) (s .fit) (busy-seen s (k .1) (c .before .before .before .before .is-busy .ensures)) (c .before .before .before .if1 .left) (held-seen s (c .before .before .is-held-back .ensures)) (c .before .if2 .taken)) (makes-refusal p co t Held (c .refusing2 .ensures), refl)
 
 search-requires : tie.Need-search-requires
 search-requires c κs = search needs
 
-returns : tie.Need-returns
-returns c = let args = c .before .before .before .before .before .before .args in
-    leaves-as (c .refusing .result) (now (args .out)) _ (moment-refused (args .coordinator) (args .table .nodes) (length (now (args .out))) (c .before .before .judged .given .0 .0) (sym (ap toldOf (c .before .before .judged .given .1)) ∙ c .before .before .before .before .judge-moment .ensures)) (c .refusing .ensures, refl)
-
 same-length : tie.Need-same-length
 same-length c = search needs
 
-returns-2 : tie.Need-returns-2
-returns-2 c = let args = c .before .before .before .before .before .before .before .before .args in
-    leaves-as (c .before .before .search .result) (now (args .out)) _ (moment-passed (args .coordinator) (args .table .nodes) (length (now (args .out))) (sym (ap toldOf (c .before .before .before .before .enum-told .given .1)) ∙ c .before .before .before .before .before .before .judge-moment .ensures)) (c .before .before .search .ensures)
+returns-3 : tie.Need-returns-3
+returns-3 c = λ p co t s k.
+    let args = c .before .before .before .before .before .before .before .before .before .before .args in
+    leaves-as (made (c .before .before .search .result) p co t) (now (args .out)) _ (discover-searches co t (length (now (args .out))) (s .fit) (busy-seen s (k .1) (c .before .before .before .before .before .before .before .is-busy .ensures)) (c .before .before .before .before .before .before .if1 .left) (held-seen s (c .before .before .before .before .before .is-held-back .ensures)) (c .before .before .before .before .if2 .left)) (c .before .before .search .ensures p co t s (k .0))
 
 pub discover-spec : {M : Type 1} → statement M
 discover-spec =
     tie.close
     (tie.spec
-    judge-moment-requires
-    enum-known-judged
+    is-busy-requires
     refusing-requires
-    enum-told
-    search-requires
     returns
+    is-held-back-requires
+    refusing-requires-2
+    returns-2
+    search-requires
     same-length
-    returns-2)
+    returns-3)

@@ -1,20 +1,21 @@
 -- `seek::present` meets its contract: what the calls gave.
-use mathlib.Core.Path.{refl, _∙_}
+use Rattle.steps.specs.declared.Seek.the-variants.{Identify}
+use Rattle.steps.specs.declared.Answer.the-variants.{Seek}
+use Rattle.seek.proofs.Seen.{makes-heard}
 use borrow.Author.Needs.{needs}
 use Rattle.seek.proofs.present.Statement.{statement}
 use Rattle.seek.proofs.present.Tie as tie
 
-with-phase-requires : tie.Need-with-phase-requires
-with-phase-requires c κs = search needs
+hearing-requires : tie.Need-hearing-requires
+hearing-requires c κs = search needs
 
-hear-mac-requires : tie.Need-hear-mac-requires
-hear-mac-requires c κs = search needs
-
-leaving-requires : tie.Need-leaving-requires
-leaving-requires c κs = search needs
+changing-requires : tie.Need-changing-requires
+changing-requires c κs = search needs
 
 returns : tie.Need-returns
-returns c = c .leaving .ensures ∙ rw (c .before .hear-mac .ensures, c .before .before .with-phase .ensures) refl
+returns c = λ p co t s k.
+    let args = c .before .before .args in
+    makes-heard s p co (args .position) (args .mac) k (c .before .hearing .ensures) (Seek (args .position) Identify) (c .changing .ensures)
 
 pub present-spec : {M : Type 1} → statement M
-present-spec = tie.close (tie.spec with-phase-requires hear-mac-requires leaving-requires returns)
+present-spec = tie.close (tie.spec hearing-requires changing-requires returns)

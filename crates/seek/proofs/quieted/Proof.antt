@@ -1,6 +1,12 @@
--- `seek::quieted` meets its contract: in each arm the case is known.
-use mathlib.Core.Path.{refl, _∙_}
-use Rattle.steps.proofs.Shows.{same-resting}
+-- `seek::quieted` meets its contract: in each arm the case is known; the exchange breaks off in the last.
+use mathlib.Core.Path.{sym, ap, _∙_}
+use Rattle.refusal.specs.declared.Refusal.the-variants.{NotWaiting}
+use Rattle.coordinator.specs.Change.{ended}
+use Rattle.steps.specs.declared.Answer.the-variants.{Rest}
+use Rattle.steps.specs.After.{shows}
+use Rattle.change.specs.declared.Edit.the-variants.{Nothing}
+use Rattle.change.proofs.Making.{makes-none, makes-refusal, makes-ended}
+use Rattle.seek.proofs.Answers.{breaks-off}
 use borrow.Author.Needs.{needs}
 use Rattle.seek.proofs.quieted.Statement.{statement}
 use Rattle.seek.proofs.quieted.Tie as tie
@@ -8,92 +14,55 @@ use Rattle.seek.proofs.quieted.Tie as tie
 enum-told : tie.Need-enum-told
 enum-told c = search needs
 
-ended-requires : tie.Need-ended-requires
-ended-requires c κs = search needs
-
-resting-requires : tie.Need-resting-requires
-resting-requires c κs = search needs
+refusing-requires : tie.Need-refusing-requires
+refusing-requires c κs = search needs
 
 enum-told-2 : tie.Need-enum-told-2
 enum-told-2 c = search needs
 
-refusing-requires : tie.Need-refusing-requires
-refusing-requires c κs = search needs
+refusing-requires-2 : tie.Need-refusing-requires-2
+refusing-requires-2 c κs = search needs
 
 enum-told-3 : tie.Need-enum-told-3
 enum-told-3 c = search needs
 
-with-phase-requires : tie.Need-with-phase-requires
-with-phase-requires c κs = search needs
+resting-requires : tie.Need-resting-requires
+resting-requires c κs = search needs
 
 resting-requires-2 : tie.Need-resting-requires-2
 resting-requires-2 c κs = search needs
 
-enum-told-4 : tie.Need-enum-told-4
-enum-told-4 c = search needs
-
-ended-requires-2 : tie.Need-ended-requires-2
-ended-requires-2 c κs = search needs
-
-resting-requires-3 : tie.Need-resting-requires-3
-resting-requires-3 c κs = search needs
-
-enum-told-5 : tie.Need-enum-told-5
-enum-told-5 c = search needs
-
-refusing-requires-2 : tie.Need-refusing-requires-2
-refusing-requires-2 c κs = search needs
-
-enum-told-6 : tie.Need-enum-told-6
-enum-told-6 c = search needs
-
-ended-requires-3 : tie.Need-ended-requires-3
-ended-requires-3 c κs = search needs
-
-resting-requires-4 : tie.Need-resting-requires-4
-resting-requires-4 c κs = search needs
+ending-requires : tie.Need-ending-requires
+ending-requires c κs = search needs
 
 returns : tie.Need-returns
-returns c = rw (c .before .before .enum-told .given .1) (c .resting .ensures ∙ same-resting 0 0 (c .before .ended .ensures) refl)
+returns c = λ p co t. rw (c .before .enum-told .given .1) (makes-refusal p co t NotWaiting (c .refusing .ensures))
 
 returns-2 : tie.Need-returns-2
-returns-2 c = rw (c .before .enum-told2 .given .1) (c .refusing .ensures)
+returns-2 c = λ p co t. rw (c .before .enum-told2 .given .1) (makes-refusal p co t NotWaiting (c .refusing2 .ensures))
 
 returns-3 : tie.Need-returns-3
-returns-3 c = rw (c .before .before .enum-told3 .given .1) (c .resting2 .ensures ∙ same-resting 0 0 (c .before .with-phase .ensures) refl)
+returns-3 c = λ p co t. rw (c .before .enum-told3 .given .1) (makes-none p co t Nothing Rest 0 0 0 (c .resting .ensures))
 
 returns-4 : tie.Need-returns-4
-returns-4 c = rw (c .before .before .enum-told4 .given .1) (c .resting3 .ensures ∙ same-resting 0 0 (c .before .ended2 .ensures) refl)
-
-returns-5 : tie.Need-returns-5
-returns-5 c = rw (c .before .enum-told5 .given .1) (c .refusing2 .ensures)
-
-returns-6 : tie.Need-returns-6
-returns-6 c = rw (c .before .before .enum-told6 .given .1) (c .resting4 .ensures ∙ same-resting 0 0 (c .before .ended3 .ensures) refl)
+returns-4 c = λ p co t.
+    makes-ended p co t (c .before .resting2 .result) (c .ending .ensures) ∙
+    makes-none p (ended co) t Nothing Rest 0 0 0 (c .before .resting2 .ensures) ∙
+    sym (ap shows (breaks-off (c .before .before .before .args .part) (c .before .before .before .args .position) co t (c .before .before .match .keys4)))
 
 pub quieted-spec : {M : Type 1} → statement M
 quieted-spec =
     tie.close
     (tie.spec
     enum-told
-    ended-requires
-    resting-requires
-    enum-told-2
     refusing-requires
-    enum-told-3
-    with-phase-requires
-    resting-requires-2
-    enum-told-4
-    ended-requires-2
-    resting-requires-3
-    enum-told-5
+    enum-told-2
     refusing-requires-2
-    enum-told-6
-    ended-requires-3
-    resting-requires-4
+    enum-told-3
+    resting-requires
+    resting-requires-2
+    ending-requires
     returns
     returns-2
     returns-3
-    returns-4
-    returns-5
-    returns-6)
+    returns-4)

@@ -41,22 +41,22 @@ in-assign-requires : tie.Need-in-assign-requires
 in-assign-requires c κs = search needs
 
 returns : tie.Need-returns
-returns c = rw (c .before .enum-told .given .1) (c .in-search .ensures)
+returns c = λ co e f. rw (c .before .enum-told .given .1) (c .in-search .ensures)
 
 returns-2 : tie.Need-returns-2
-returns-2 c = rw (c .enum-told2 .given .1) refl
+returns-2 c = λ co e f. rw (c .enum-told2 .given .1) refl
 
 returns-3 : tie.Need-returns-3
-returns-3 c = rw (c .before .enum-told3 .given .1) (c .in-identify .ensures)
+returns-3 c = λ co e f. rw (c .before .enum-told3 .given .1) (c .in-identify .ensures)
 
 returns-4 : tie.Need-returns-4
-returns-4 c = rw (c .before .enum-told4 .given .1) (c .in-identify2 .ensures)
+returns-4 c = λ co e f. rw (c .before .enum-told4 .given .1) (c .in-identify2 .ensures)
 
 returns-5 : tie.Need-returns-5
-returns-5 c = rw (c .enum-told5 .given .1) refl
+returns-5 c = λ co e f. rw (c .enum-told5 .given .1) refl
 
 returns-6 : tie.Need-returns-6
-returns-6 c = rw (c .before .before .before .before .before .enum-told6 .given .1) (c .in-assign .ensures ∙ rw (c .before .is-assignment .ensures, c .before .before .address-at .ensures) refl)
+returns-6 c = λ co e f. rw (c .before .before .before .before .before .before .enum-told6 .given .1) (c .in-assign .ensures ∙ rw (c .before .is-assignment .ensures, c .before .before .address-at .ensures, e, f) refl)
 
 pub reply-in-spec : {M : Type 1} → statement M
 reply-in-spec =

@@ -1,9 +1,12 @@
 -- `seek::search` meets its contract: 16 where no position is free; else Node Discovery is written, or finds no room.
-use mathlib.Core.Path.{refl, _∙_}
+use mathlib.Core.Path.{refl}
 use lib.ListN.{length}
 use denote.Ref.{now}
+use Rattle.refusal.specs.declared.Refusal.the-variants.{Full}
 use Rattle.steps.proofs.Shows.{leaves-as}
-use Rattle.seek.proofs.Discovery.{no-place, same-searched, leaves-searched}
+use Rattle.change.proofs.Making.{makes-refusal, made}
+use Rattle.seek.proofs.Seen.{free-seen}
+use Rattle.seek.proofs.Discovery.{no-place, makes-searched, leaves-searched}
 use borrow.Author.Needs.{needs}
 use Rattle.seek.proofs.search.Statement.{statement}
 use Rattle.seek.proofs.search.Tie as tie
@@ -15,8 +18,9 @@ refusing-requires : tie.Need-refusing-requires
 refusing-requires c κs = search needs
 
 returns : tie.Need-returns
-returns c = let args = c .before .before .before .before .args in
-    leaves-as (c .refusing .result) (now (args .out)) _ (no-place (args .coordinator) (args .table .nodes) (length (now (args .out))) (c .before .before .lowest .ensures) (c .before .if1 .taken)) (c .refusing .ensures, refl)
+returns c = λ p co t s k.
+    let args = c .before .before .before .before .before .args in
+    leaves-as (made (c .refusing .result) p co t) (now (args .out)) _ (no-place co t (length (now (args .out))) (free-seen s k (c .before .before .lowest .ensures)) (c .before .if1 .taken)) (makes-refusal p co t Full (c .refusing .ensures), refl)
 
 write-discovery-requires : tie.Need-write-discovery-requires
 write-discovery-requires c κs = search needs
@@ -24,11 +28,8 @@ write-discovery-requires c κs = search needs
 enum-known-n : tie.Need-enum-known-n
 enum-known-n c = search needs
 
-searching-requires : tie.Need-searching-requires
-searching-requires c κs = search needs
-
-leaving-requires : tie.Need-leaving-requires
-leaving-requires c κs = search needs
+changing-requires : tie.Need-changing-requires
+changing-requires c κs = search needs
 
 enum-known-refusal : tie.Need-enum-known-refusal
 enum-known-refusal c = search needs
@@ -40,16 +41,18 @@ same-length : tie.Need-same-length
 same-length c = search needs
 
 returns-2 : tie.Need-returns-2
-returns-2 c = let args = c .before .before .before .before .before .before .before .before .before .before .before .before .args in
-    let place = c .before .before .before .before .before .before .before .before .before .before .lowest .ensures in
-    leaves-searched (args .coordinator) (args .table .nodes) (c .leaving .result) (now (args .out)) _ place (c .before .before .before .before .before .before .before .before .before .if1 .left) (c .before .before .before .before .before .before .before .write-discovery .result) (c .before .before .before .before .before .before .before .write-discovery .ensures) (rw (c .before .before .before .n .given .1) (c .leaving .ensures ∙ same-searched (args .coordinator) (args .table .nodes) _ (c .before .searching .ensures) place))
+returns-2 c = λ p co t s k.
+    let args = c .before .before .before .before .before .before .before .before .before .before .before .before .args in
+    let place = free-seen s k (c .before .before .before .before .before .before .before .before .before .lowest .ensures) in
+    leaves-searched co t (made (c .changing .result) p co t) (now (args .out)) _ place (c .before .before .before .before .before .before .before .before .if1 .left) (c .before .before .before .before .before .before .write-discovery .result) (c .before .before .before .before .before .before .write-discovery .ensures) (rw (c .before .before .n .given .1) (makes-searched p co t _ place (c .changing .ensures)))
 
 same-length-2 : tie.Need-same-length-2
 same-length-2 c = search needs
 
 returns-3 : tie.Need-returns-3
-returns-3 c = let args = c .before .before .before .before .before .before .before .before .before .before .before .args in
-    leaves-searched (args .coordinator) (args .table .nodes) (c .refusing2 .result) (now (args .out)) _ (c .before .before .before .before .before .before .before .before .before .lowest .ensures) (c .before .before .before .before .before .before .before .before .if1 .left) (c .before .before .before .before .before .before .write-discovery .result) (c .before .before .before .before .before .before .write-discovery .ensures) (rw (c .before .before .refusal .given .1) (c .refusing2 .ensures))
+returns-3 c = λ p co t s k.
+    let args = c .before .before .before .before .before .before .before .before .before .before .before .before .args in
+    leaves-searched co t (made (c .refusing2 .result) p co t) (now (args .out)) _ (free-seen s k (c .before .before .before .before .before .before .before .before .before .lowest .ensures)) (c .before .before .before .before .before .before .before .before .if1 .left) (c .before .before .before .before .before .before .write-discovery .result) (c .before .before .before .before .before .before .write-discovery .ensures) (rw (c .before .before .refusal .given .1) (makes-refusal p co t _ (c .refusing2 .ensures)))
 
 pub search-spec : {M : Type 1} → statement M
 search-spec =
@@ -60,8 +63,7 @@ search-spec =
     returns
     write-discovery-requires
     enum-known-n
-    searching-requires
-    leaving-requires
+    changing-requires
     enum-known-refusal
     refusing-requires-2
     same-length

@@ -1,6 +1,8 @@
 -- `seek::settled` meets its contract: by what the writer of the ACK gave.
+use mathlib.Core.Path.{refl}
 use denote.Ref.{now}
-use Rattle.seek.proofs.Settling.{leaves-settled}
+use Rattle.change.proofs.Making.{makes-refusal}
+use Rattle.seek.proofs.Settling.{acked, leaves-settled}
 use borrow.Author.Needs.{needs}
 use Rattle.seek.proofs.settled.Statement.{statement}
 use Rattle.seek.proofs.settled.Tie as tie
@@ -8,14 +10,14 @@ use Rattle.seek.proofs.settled.Tie as tie
 outcome-requires : tie.Need-outcome-requires
 outcome-requires c κs = search needs
 
+retyped-requires : tie.Need-retyped-requires
+retyped-requires c κs = search needs
+
 write-signed-requires : tie.Need-write-signed-requires
 write-signed-requires c κs = search needs
 
 enum-known-n : tie.Need-enum-known-n
 enum-known-n c = search needs
-
-leaving-requires : tie.Need-leaving-requires
-leaving-requires c κs = search needs
 
 enum-known-refusal : tie.Need-enum-known-refusal
 enum-known-refusal c = search needs
@@ -27,26 +29,28 @@ same-length : tie.Need-same-length
 same-length c = search needs
 
 returns : tie.Need-returns
-returns c = let args = c .before .before .before .before .before .before .before .before .before .before .args in
-    let ending = c .before .before .before .before .before .before .before .before .outcome .ensures in
-    leaves-settled (args .coordinator) (args .table .nodes) (args .position) (args .found) (c .leaving .result) (now (args .out)) _ (c .before .before .before .before .before .before .before .before .outcome .result) ending (c .before .before .before .before .before .before .write-signed .result) (c .before .before .before .before .before .before .write-signed .ensures) (rw (c .before .before .n .given .1) (c .leaving .ensures))
+returns c = λ p co t s k.
+    let args = c .before .before .before .before .before .before .before .before .before .before .before .before .args in
+    let ending = c .before .before .before .before .before .before .before .before .before .before .outcome .result in
+    leaves-settled co t (args .position) (args .found) s (k .0) (acked ending (c .before .n .given .0 .0)) p (now (args .out)) _ ending (c .before .before .before .before .before .before .before .before .before .before .outcome .ensures p co t s k) (c .before .before .before .before .before .before .before .before .before .retyped .ensures) (c .before .before .before .before .before .write-signed .result) (c .before .before .before .before .before .write-signed .ensures) (rw (c .before .n .given .1) refl)
 
 same-length-2 : tie.Need-same-length-2
 same-length-2 c = search needs
 
 returns-2 : tie.Need-returns-2
-returns-2 c = let args = c .before .before .before .before .before .before .before .before .before .before .args in
-    let ending = c .before .before .before .before .before .before .before .before .outcome .ensures in
-    leaves-settled (args .coordinator) (args .table .nodes) (args .position) (args .found) (c .refusing .result) (now (args .out)) _ (c .before .before .before .before .before .before .before .before .outcome .result) ending (c .before .before .before .before .before .before .write-signed .result) (c .before .before .before .before .before .before .write-signed .ensures) (rw (c .before .before .refusal .given .1) (c .refusing .ensures))
+returns-2 c = λ p co t s k.
+    let args = c .before .before .before .before .before .before .before .before .before .before .before .before .before .args in
+    let ending = c .before .before .before .before .before .before .before .before .before .before .before .outcome .result in
+    leaves-settled co t (args .position) (args .found) s (k .0) (c .refusing .result) p (now (args .out)) _ ending (c .before .before .before .before .before .before .before .before .before .before .before .outcome .ensures p co t s k) (c .before .before .before .before .before .before .before .before .before .before .retyped .ensures) (c .before .before .before .before .before .before .write-signed .result) (c .before .before .before .before .before .before .write-signed .ensures) (rw (c .before .before .refusal .given .1) (makes-refusal p co t _ (c .refusing .ensures)))
 
 pub settled-spec : {M : Type 1} → statement M
 settled-spec =
     tie.close
     (tie.spec
     outcome-requires
+    retyped-requires
     write-signed-requires
     enum-known-n
-    leaving-requires
     enum-known-refusal
     refusing-requires
     same-length

@@ -6,6 +6,7 @@ use Rattle.accept.specs.declared.Reply.{Reply}
 use Rattle.accept.proofs.Told.{same-reply}
 use Rattle.steps.specs.Seek.{replyIn, repliedAs}
 use Rattle.steps.proofs.Shows.{leaves-as}
+use Rattle.change.proofs.Making.{made}
 use borrow.Author.Needs.{needs}
 use Rattle.seek.proofs.sought.Statement.{statement}
 use Rattle.seek.proofs.sought.Tie as tie
@@ -20,8 +21,9 @@ same-length : tie.Need-same-length
 same-length c = search needs
 
 returns : tie.Need-returns
-returns c = let args = c .before .before .before .before .before .before .before .args in
-    leaves-as (c .before .before .replied .result) (now (args .out)) _ (ap (λ (reply : Reply). repliedAs reply (args .position) (args .coordinator) (args .table .nodes) (now (args .payload)) (length (now (args .out)))) (sym (same-reply (c .before .before .before .before .reply-in .result) (replyIn (args .part) (args .position) (args .coordinator) (args .header) (now (args .payload))) (c .before .before .before .before .reply-in .ensures)))) (c .before .before .replied .ensures)
+returns c = λ p co t s k.
+    let args = c .before .before .before .before .before .before .before .args in
+    leaves-as (made (c .before .before .replied .result) p co t) (now (args .out)) _ (ap (λ (reply : Reply). repliedAs reply (args .position) co t (now (args .payload)) (length (now (args .out)))) (sym (same-reply (c .before .before .before .before .reply-in .result) (replyIn (args .part) (args .position) co (args .header) (now (args .payload))) (c .before .before .before .before .reply-in .ensures co (s .setup) (s .state))))) (c .before .before .replied .ensures p co t s k)
 
 pub sought-spec : {M : Type 1} → statement M
 sought-spec = tie.close (tie.spec reply-in-requires replied-requires same-length returns)

@@ -21,8 +21,8 @@ abbrev μ-loop : tie.MeasureT-loop
 mul-mac : tie.Need-mul-mac Inv-loop μ-loop
 mul-mac c = search needs
 
-shared-slice-read-mac : tie.Need-shared-slice-read-mac Inv-loop μ-loop
-shared-slice-read-mac c = search needs
+element-copy-out-mac : tie.Need-element-copy-out-mac Inv-loop μ-loop
+element-copy-out-mac c = search needs
 
 returns : tie.Need-returns Inv-loop μ-loop
 returns c = apart-zero (now (c .before .before .args .macs)) (c .before .before .args .i) (c .if1 .taken)
@@ -33,8 +33,8 @@ loop-holds c = search loops
 mul-apart : tie.Need-mul-apart Inv-loop μ-loop
 mul-apart c = search needs
 
-shared-slice-read-apart : tie.Need-shared-slice-read-apart Inv-loop μ-loop
-shared-slice-read-apart c = search needs
+element-copy-out-apart : tie.Need-element-copy-out-apart Inv-loop μ-loop
+element-copy-out-apart c = search needs
 
 add-j : tie.Need-add-j Inv-loop μ-loop
 add-j c = search needs
@@ -55,11 +55,11 @@ apart-from-lower-spec =
     Inv-loop
     μ-loop
     mul-mac
-    shared-slice-read-mac
+    element-copy-out-mac
     returns
     loop-holds
     mul-apart
-    shared-slice-read-apart
+    element-copy-out-apart
     add-j
     loop-less
     loop-again

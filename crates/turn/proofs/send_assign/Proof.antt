@@ -1,9 +1,12 @@
--- `turn::send_assign` meets its contract, by the law of what a transmission leaves.
+-- `turn::send_assign` meets its contract, by the law of what a transmission shows.
 use mathlib.Core.Path.{refl}
 use denote.Ref.{now}
-use Rattle.steps.specs.Turn.{dueAssign}
+use Rattle.message.specs.Message.{assignment}
 use Rattle.message.proofs.Messages.{assignment-small}
-use Rattle.turn.proofs.Sending.{leaves-sent}
+use Rattle.steps.specs.Turn.{dueAssign}
+use Rattle.change.specs.declared.Edit.the-variants.{Nothing}
+use Rattle.change.proofs.Making.{edits-none}
+use Rattle.turn.proofs.Sending.{does-sent}
 use borrow.Author.Needs.{needs}
 use Rattle.turn.proofs.send_assign.Statement.{statement}
 use Rattle.turn.proofs.send_assign.Tie as tie
@@ -21,9 +24,10 @@ same-length : tie.Need-same-length
 same-length c = search needs
 
 returns : tie.Need-returns
-returns c =
-    let args = c .before .before .before .before .before .before .before .before .args in
-    leaves-sent (dueAssign (args .coordinator) (args .table .nodes) (args .position)) (args .coordinator) (args .table .nodes) (c .sent .result) (now (args .out)) _ (assignment-small (args .coordinator .setup) (args .position) (args .coordinator .found .mac) (args .coordinator .found .session)) (c .before .before .before .before .write-assign .result) (c .before .before .before .before .write-assign .ensures) (c .before .seeking .ensures) refl (c .sent .ensures)
+returns c = λ p co t s k.
+    let args = c .before .before .before .before .before .before .before .before .before .args in
+    let wrote = c .before .before .before .before .write-assign in
+    does-sent (dueAssign co t (args .position)) p co t (now (args .out)) _ (assignment-small (co .setup) (args .position) (co .found .mac) (co .found .session)) (wrote .result) _ 0 Nothing _ (c .sent .ensures) (c .before .seeking .ensures) refl (edits-none t Nothing) refl (wrote .ensures) refl (λ i. assignment (s .setup i) (args .position) (s .state i .found .mac) (s .state i .found .session))
 
 pub send-assign-spec : {M : Type 1} → statement M
 send-assign-spec =

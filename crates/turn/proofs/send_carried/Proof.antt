@@ -1,8 +1,14 @@
--- `turn::send_carried` meets its contract, by the law of what a transmission leaves.
+-- `turn::send_carried` meets its contract, by the law of what a transmission shows.
+use native.Mathlib.Omega.{arith}
 use mathlib.Core.Path.{refl}
 use denote.Ref.{now}
-use Rattle.steps.specs.Turn.{dueCarried}
-use Rattle.turn.proofs.Sending.{leaves-sent}
+use lib.ListN.{take, length-take}
+use Rattle.message.specs.Message.{toBoard}
+use Rattle.coordinator.specs.State.{keptAs}
+use Rattle.steps.specs.Turn.{carriedHeader, dueCarried}
+use Rattle.change.specs.declared.Edit.the-variants.{Nothing}
+use Rattle.change.proofs.Making.{edits-none}
+use Rattle.turn.proofs.Sending.{does-sent}
 use borrow.Author.Needs.{needs}
 use Rattle.turn.proofs.send_carried.Statement.{statement}
 use Rattle.turn.proofs.send_carried.Tie as tie
@@ -20,9 +26,10 @@ same-length : tie.Need-same-length
 same-length c = search needs
 
 returns : tie.Need-returns
-returns c =
-    let args = c .before .before .before .before .before .before .before .args in
-    leaves-sent (dueCarried (args .coordinator) (args .table .nodes) (args .board) (args .exchange) (args .requester) (args .parameter2)) (args .coordinator) (args .table .nodes) (c .sent .result) (now (args .out)) _ (c .before .before .before .before .write-carried .ensures .0) (c .before .before .before .before .write-carried .result) (c .before .before .before .before .write-carried .ensures .1) (c .before .waiting .ensures) refl (c .sent .ensures)
+returns c = λ p co t s k.
+    let args = c .before .before .before .before .before .before .before .before .before .args in
+    let wrote = c .before .before .before .before .write-carried in
+    does-sent (dueCarried co t (args .board) (args .exchange) (args .requester) (args .parameter2)) p co t (now (args .out)) _ (simp length-take (omega (arith, k .1))) (wrote .result) _ 0 Nothing _ (c .sent .ensures) (c .before .waiting .ensures) refl (edits-none t Nothing) refl (wrote .ensures) (λ i. toBoard (s .setup i) (args .board) (carriedHeader (keptAs (s .state i .head) (k .0 i)) (args .parameter2))) (λ i. take (s .state i .head .length) (k .0 i))
 
 pub send-carried-spec : {M : Type 1} → statement M
 send-carried-spec =

@@ -3,7 +3,8 @@ use mathlib.Core.Path.{sym, ap, _∙_}
 use denote.Ref.{now}
 use Rattle.coordinator.specs.declared.Phase.{Phase}
 use Rattle.steps.specs.Turn.{dueIn, isAwaiting}
-use Rattle.turn.proofs.Sending.{leaves-due, own-due}
+use Rattle.turn.proofs.Seen.{forward-small, return-small}
+use Rattle.turn.proofs.Sending.{does-due, own-due}
 use borrow.Author.Needs.{needs}
 use Rattle.turn.proofs.send_due.Statement.{statement}
 use Rattle.turn.proofs.send_due.Tie as tie
@@ -11,8 +12,8 @@ use Rattle.turn.proofs.send_due.Tie as tie
 enum-known-phase : tie.Need-enum-known-phase
 enum-known-phase c = search needs
 
-send-return-requires : tie.Need-send-return-requires
-send-return-requires c κs = search needs
+send-carried-requires : tie.Need-send-carried-requires
+send-carried-requires c κs = search needs
 
 enum-known-phase-2 : tie.Need-enum-known-phase-2
 enum-known-phase-2 c = search needs
@@ -24,7 +25,7 @@ enum-known-phase-3 : tie.Need-enum-known-phase-3
 enum-known-phase-3 c = search needs
 
 send-seek-requires : tie.Need-send-seek-requires
-send-seek-requires c κs = ap isAwaiting (sym (c .before .before .phase3 .given .1)) ∙ c .before .before .before .before .before .pre
+send-seek-requires c κs = ap isAwaiting (sym (c .before .before .phase3 .given .1)) ∙ c .before .before .before .before .before .before .pre
 
 send-own-requires : tie.Need-send-own-requires
 send-own-requires c κs = search needs
@@ -33,40 +34,47 @@ same-length : tie.Need-same-length
 same-length c = search needs
 
 returns : tie.Need-returns
-returns c =
-    let args = c .before .before .before .before .before .before .before .before .args in
-    leaves-due (args .coordinator) (args .table .nodes) (c .before .before .send-return .result) (now (args .out)) _ (ap (λ (p : Phase). dueIn p (args .coordinator) (args .table .nodes)) (c .before .before .before .before .before .phase .given .1)) (c .before .before .send-return .ensures)
+returns c = λ p co t s k.
+    let args = c .before .before .before .before .before .before .before .before .before .args in
+    let called = c .before .before .send-carried in
+    let is = c .before .before .before .before .before .phase .given .1 in
+    does-due (called .result) p co t (now (args .out)) _ (ap (λ (x : Phase). dueIn x co t) is) (called .ensures p co t s (k .1, return-small s (sym (k .0) ∙ is)))
 
 same-length-2 : tie.Need-same-length-2
 same-length-2 c = search needs
 
 returns-2 : tie.Need-returns-2
-returns-2 c =
-    let args = c .before .before .before .before .before .before .before .before .args in
-    leaves-due (args .coordinator) (args .table .nodes) (c .before .before .send-forward .result) (now (args .out)) _ (ap (λ (p : Phase). dueIn p (args .coordinator) (args .table .nodes)) (c .before .before .before .before .before .phase2 .given .1)) (c .before .before .send-forward .ensures)
+returns-2 c = λ p co t s k.
+    let args = c .before .before .before .before .before .before .before .before .before .args in
+    let called = c .before .before .send-forward in
+    let is = c .before .before .before .before .before .phase2 .given .1 in
+    does-due (called .result) p co t (now (args .out)) _ (ap (λ (x : Phase). dueIn x co t) is) (called .ensures p co t s ((k .1, forward-small s (sym (k .0) ∙ is)), k .2 .0))
 
 same-length-3 : tie.Need-same-length-3
 same-length-3 c = search needs
 
 returns-3 : tie.Need-returns-3
-returns-3 c =
-    let args = c .before .before .before .before .before .before .before .before .args in
-    leaves-due (args .coordinator) (args .table .nodes) (c .before .before .send-seek .result) (now (args .out)) _ (ap (λ (p : Phase). dueIn p (args .coordinator) (args .table .nodes)) (c .before .before .before .before .before .phase3 .given .1)) (c .before .before .send-seek .ensures)
+returns-3 c = λ p co t s k.
+    let args = c .before .before .before .before .before .before .before .before .before .args in
+    let called = c .before .before .send-seek in
+    let is = c .before .before .before .before .before .phase3 .given .1 in
+    does-due (called .result) p co t (now (args .out)) _ (ap (λ (x : Phase). dueIn x co t) is) (called .ensures p co t s (k .2 .0))
 
 same-length-4 : tie.Need-same-length-4
 same-length-4 c = search needs
 
 returns-4 : tie.Need-returns-4
-returns-4 c =
-    let args = c .before .before .before .before .before .before .args in
-    leaves-due (args .coordinator) (args .table .nodes) (c .before .before .send-own .result) (now (args .out)) _ (own-due (args .coordinator) (args .table .nodes) (args .phase) (c .before .before .before .before .match .keys4)) (c .before .before .send-own .ensures)
+returns-4 c = λ p co t s k.
+    let args = c .before .before .before .before .before .before .before .args in
+    let called = c .before .before .send-own in
+    does-due (called .result) p co t (now (args .out)) _ (own-due co t (args .phase) (c .before .before .before .before .match .keys4)) (called .ensures p co t s (k .2))
 
 pub send-due-spec : {M : Type 1} → statement M
 send-due-spec =
     tie.close
     (tie.spec
     enum-known-phase
-    send-return-requires
+    send-carried-requires
     enum-known-phase-2
     send-forward-requires
     enum-known-phase-3

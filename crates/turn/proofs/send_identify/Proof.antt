@@ -1,9 +1,12 @@
--- `turn::send_identify` meets its contract, by the law of what a transmission leaves.
+-- `turn::send_identify` meets its contract, by the law of what a transmission shows.
 use native.Mathlib.Omega.{arith}
 use mathlib.Core.Path.{refl}
 use denote.Ref.{now}
 use Rattle.steps.specs.Turn.{dueIdentify}
-use Rattle.turn.proofs.Sending.{leaves-sent}
+use Rattle.change.specs.declared.Edit.the-variants.{Nothing}
+use Rattle.change.proofs.Making.{edits-none}
+use Rattle.turn.proofs.Seen.{header-seen}
+use Rattle.turn.proofs.Sending.{does-sent}
 use borrow.Author.Needs.{needs}
 use Rattle.turn.proofs.send_identify.Statement.{statement}
 use Rattle.turn.proofs.send_identify.Tie as tie
@@ -21,9 +24,10 @@ same-length : tie.Need-same-length
 same-length c = search needs
 
 returns : tie.Need-returns
-returns c =
+returns c = λ p co t s k.
     let args = c .before .before .before .before .before .before .before .args in
-    leaves-sent (dueIdentify (args .coordinator) (args .table .nodes) (args .position)) (args .coordinator) (args .table .nodes) (c .sent .result) (now (args .out)) _ (omega arith) (c .before .before .before .before .write-identify .result) (c .before .before .before .before .write-identify .ensures) (c .before .seeking .ensures) refl (c .sent .ensures)
+    let wrote = c .before .before .before .before .write-identify in
+    does-sent (dueIdentify co t (args .position)) p co t (now (args .out)) _ (omega arith) (wrote .result) _ 0 Nothing _ (c .sent .ensures) (c .before .seeking .ensures) refl (edits-none t Nothing) refl (wrote .ensures) (header-seen s k (args .position) 123 0) refl
 
 pub send-identify-spec : {M : Type 1} → statement M
 send-identify-spec =

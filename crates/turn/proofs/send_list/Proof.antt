@@ -1,8 +1,11 @@
--- `turn::send_list` meets its contract, by the law of what a transmission leaves.
+-- `turn::send_list` meets its contract, by the law of what a transmission shows.
+use mathlib.Core.Path.{refl}
 use denote.Ref.{now}
 use Rattle.message.proofs.Messages.{list-small}
 use Rattle.steps.specs.Turn.{dueList}
-use Rattle.turn.proofs.Sending.{leaves-sent}
+use Rattle.change.specs.declared.Edit.the-variants.{Unmarked}
+use Rattle.turn.proofs.Seen.{header-seen, list-seen}
+use Rattle.turn.proofs.Sending.{does-sent}
 use borrow.Author.Needs.{needs}
 use Rattle.turn.proofs.send_list.Statement.{statement}
 use Rattle.turn.proofs.send_list.Tie as tie
@@ -13,9 +16,6 @@ write-list-requires c κs = search needs
 waiting-requires : tie.Need-waiting-requires
 waiting-requires c κs = search needs
 
-unmark-at-requires : tie.Need-unmark-at-requires
-unmark-at-requires c κs = search needs
-
 sent-requires : tie.Need-sent-requires
 sent-requires c κs = search needs
 
@@ -23,17 +23,11 @@ same-length : tie.Need-same-length
 same-length c = search needs
 
 returns : tie.Need-returns
-returns c =
-    let args = c .before .before .before .before .before .before .before .before .args in
-    leaves-sent (dueList (args .coordinator) (args .table .nodes) (args .board)) (args .coordinator) (args .table .nodes) (c .sent .result) (now (args .out)) _ (list-small (args .coordinator .setup .internal) (args .table .nodes)) (c .before .before .before .before .before .write-list .result) (c .before .before .before .before .before .write-list .ensures) (c .before .before .waiting .ensures) (c .before .unmark-at .ensures) (c .sent .ensures)
+returns c = λ p co t s k.
+    let args = c .before .before .before .before .before .before .before .args in
+    let wrote = c .before .before .before .before .write-list in
+    does-sent (dueList co t (args .board)) p co t (now (args .out)) _ (list-small (co .setup .internal) t) (wrote .result) _ (args .board) Unmarked _ (c .sent .ensures) (c .before .waiting .ensures) refl refl refl (wrote .ensures) (header-seen s k (args .board) 20 0) (list-seen s k)
 
 pub send-list-spec : {M : Type 1} → statement M
 send-list-spec =
-    tie.close
-    (tie.spec
-    write-list-requires
-    waiting-requires
-    unmark-at-requires
-    sent-requires
-    same-length
-    returns)
+    tie.close (tie.spec write-list-requires waiting-requires sent-requires same-length returns)

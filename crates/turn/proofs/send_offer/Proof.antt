@@ -1,18 +1,21 @@
--- `turn::send_offer` meets its contract, by the law of what a transmission leaves.
-use mathlib.Core.Path.{refl}
+-- `turn::send_offer` meets its contract, by the law of what a transmission shows.
+use mathlib.Core.Path.{refl, ap}
 use denote.Ref.{now}
+use Rattle.message.specs.Message.{signed}
 use Rattle.message.proofs.Messages.{signed-small}
+use Rattle.setup.specs.declared.Setup.{Setup}
 use Rattle.steps.specs.Turn.{dueOffer}
-use Rattle.turn.proofs.Sending.{leaves-sent}
+use Rattle.change.specs.declared.Move.the-variants.{Offered}
+use Rattle.change.specs.declared.Edit.the-variants.{Nothing}
+use Rattle.change.proofs.Making.{edits-none}
+use Rattle.turn.proofs.Seen.{header-seen}
+use Rattle.turn.proofs.Sending.{does-sent}
 use borrow.Author.Needs.{needs}
 use Rattle.turn.proofs.send_offer.Statement.{statement}
 use Rattle.turn.proofs.send_offer.Tie as tie
 
 write-signed-requires : tie.Need-write-signed-requires
 write-signed-requires c κs = search needs
-
-offered-requires : tie.Need-offered-requires
-offered-requires c κs = search needs
 
 sent-requires : tie.Need-sent-requires
 sent-requires c κs = search needs
@@ -21,10 +24,11 @@ same-length : tie.Need-same-length
 same-length c = search needs
 
 returns : tie.Need-returns
-returns c =
-    let args = c .before .before .before .before .before .before .before .args in
-    leaves-sent (dueOffer (args .coordinator) (args .table .nodes) (args .board)) (args .coordinator) (args .table .nodes) (c .sent .result) (now (args .out)) _ (signed-small (args .coordinator .setup) 0) (c .before .before .before .before .write-signed .result) (c .before .before .before .before .write-signed .ensures) (c .before .offered .ensures) refl (c .sent .ensures)
+returns c = λ p co t s k.
+    let args = c .before .before .before .before .before .before .args in
+    let wrote = c .before .before .before .write-signed in
+    does-sent (dueOffer co t (args .board)) p co t (now (args .out)) _ (signed-small (co .setup) 0) (wrote .result) (Offered (args .board)) 0 Nothing _ (c .sent .ensures) refl refl (edits-none t Nothing) refl (wrote .ensures) (header-seen s k (args .board) 0 128) (ap (λ (x : Setup). signed x 0) (s .setup))
 
 pub send-offer-spec : {M : Type 1} → statement M
 send-offer-spec =
-    tie.close (tie.spec write-signed-requires offered-requires sent-requires same-length returns)
+    tie.close (tie.spec write-signed-requires sent-requires same-length returns)

@@ -3,7 +3,7 @@ use mathlib.Core.Path.{ap}
 use denote.Ref.{now}
 use Rattle.coordinator.specs.declared.Part.{Part}
 use Rattle.steps.specs.Turn.{dueSeek}
-use Rattle.turn.proofs.Sending.{leaves-due, assign-due}
+use Rattle.turn.proofs.Sending.{does-due, assign-due}
 use borrow.Author.Needs.{needs}
 use Rattle.turn.proofs.send_seek.Statement.{statement}
 use Rattle.turn.proofs.send_seek.Tie as tie
@@ -21,17 +21,19 @@ same-length : tie.Need-same-length
 same-length c = search needs
 
 returns : tie.Need-returns
-returns c =
+returns c = λ p co t s k.
     let args = c .before .before .before .before .before .before .before .args in
-    leaves-due (args .coordinator) (args .table .nodes) (c .before .before .send-identify .result) (now (args .out)) _ (ap (λ (p : Part). dueSeek p (args .coordinator) (args .table .nodes) (args .position)) (c .before .before .before .before .enum-told .given .1)) (c .before .before .send-identify .ensures)
+    let called = c .before .before .send-identify in
+    does-due (called .result) p co t (now (args .out)) _ (ap (λ (x : Part). dueSeek x co t (args .position)) (c .before .before .before .before .enum-told .given .1)) (called .ensures p co t s k)
 
 same-length-2 : tie.Need-same-length-2
 same-length-2 c = search needs
 
 returns-2 : tie.Need-returns-2
-returns-2 c =
+returns-2 c = λ p co t s k.
     let args = c .before .before .before .before .before .before .args in
-    leaves-due (args .coordinator) (args .table .nodes) (c .before .before .send-assign .result) (now (args .out)) _ (assign-due (args .coordinator) (args .table .nodes) (args .part) (args .position) (c .before .before .before .before .match .keys2) (c .before .before .before .before .before .before .pre)) (c .before .before .send-assign .ensures)
+    let called = c .before .before .send-assign in
+    does-due (called .result) p co t (now (args .out)) _ (assign-due co t (args .part) (args .position) (c .before .before .before .before .match .keys2) (c .before .before .before .before .before .before .pre)) (called .ensures p co t s tt)
 
 pub send-seek-spec : {M : Type 1} → statement M
 send-seek-spec =

@@ -1,7 +1,8 @@
--- `turn::write_carried` meets its contract: the payload's array has 240 bytes, so that its front cut there is the kept payload.
+-- `turn::write_carried` meets its contract: the payload's front cut at its whole length is the front that is kept.
 use native.Mathlib.Omega.{arith}
-use mathlib.Core.Path.{_≡_}
-use lib.ListN.{length, length-map, length-take}
+use mathlib.Core.Path.{refl}
+use denote.Ref.{now}
+use lib.ListN.{length, length-take}
 use Rattle.ground.proofs.Laid.{front-cut}
 use borrow.Author.Needs.{needs}
 use Rattle.turn.proofs.write_carried.Statement.{statement}
@@ -10,11 +11,8 @@ use Rattle.turn.proofs.write_carried.Tie as tie
 least-requires : tie.Need-least-requires
 least-requires c κs = search needs
 
-array-share-prefix-payload : tie.Need-array-share-prefix-payload
-array-share-prefix-payload c = omega (arith, c .least .ensures, (simp length-map at (c .before .before .before .good .0 .1 .1 .1 .1 .1 .1 .1 .1 .0 .1 .0 .1)))
-
 slice-aggregate-write-to : tie.Need-slice-aggregate-write-to
-slice-aggregate-write-to c = simp length-take (omega (arith, c .before .least .ensures, (simp length-map at (c .before .before .before .before .good .0 .1 .1 .1 .1 .1 .1 .1 .1 .0 .1 .0 .1))))
+slice-aggregate-write-to c = simp length-take (omega (arith, c .before .least .ensures))
 
 write-to-requires : tie.Need-write-to-requires
 write-to-requires c κs = search needs
@@ -24,17 +22,14 @@ same-length c = search needs
 
 returns : tie.Need-returns
 returns c =
-    let kept = c .before .before .before .before .before .before .before .before .args .kept in
-    let whole : length (kept .payload) ≡ 240 = simp length-map at (c .before .before .before .before .before .before .before .before .good .0 .1 .1 .1 .1 .1 .1 .1 .1 .0 .1 .0 .1) in
-    let cut = front-cut (kept .payload) (c .before .before .before .before .before .least .result) (kept .length) 240 whole (c .before .before .before .before .before .least .ensures) in
-    (simp length-take (omega arith), rw cut at (c .before .before .write-to .ensures))
+    let args = c .before .before .before .before .before .before .before .before .args in
+    rw (front-cut (now (args .payload)) (c .before .before .before .before .before .least .result) (args .head .length) (length (now (args .payload))) refl (c .before .before .before .before .before .least .ensures)) at (c .before .before .write-to .ensures)
 
 pub write-carried-spec : {M : Type 1} → statement M
 write-carried-spec =
     tie.close
     (tie.spec
     least-requires
-    array-share-prefix-payload
     slice-aggregate-write-to
     write-to-requires
     same-length

@@ -1,0 +1,3 @@
+pub mod Digests
+pub mod Seeing
+pub mod Unique

@@ -1,0 +1,59 @@
+-- What a step sees of coordinator and records, and when that is fit (01, "Fit"); it decides by this alone (house).
+use Prim.Native.Nat.{ℕ, min}
+use mathlib.Core.Path.{_≡_}
+use mathlib.Core.Bool.{Bool, true, _&&_, _||_}
+use mathlib.Core.List.{List}
+use lib.ListN.{length}
+use lib.Dec.{eqb, leb, ltb}
+use Rattle.ground.specs.Below.{all}
+use Rattle.board.specs.declared.Node.{Node}
+use Rattle.board.specs.Wanted.{highestListed}
+use Rattle.board.specs.Columns.{kindsOf, marksOf, macsOf, typed}
+use Rattle.setup.specs.Setup.{setupFits}
+use Rattle.setup.specs.Fit.{apartFrom, recordsFit}
+use Rattle.coordinator.specs.declared.Coordinator.{Coordinator}
+use Rattle.coordinator.specs.Phase.{phaseOf}
+use Rattle.coordinator.specs.Fit.{phaseFits, seekFits, fits}
+use Rattle.coordinator.specs.State.{stateOf, bare}
+use Rattle.look.specs.declared.Seen.{Seen}
+
+-- coordinator and records are fit, as far as it can be seen: the test of 01, "Fit", over the columns; no MAC is above the highest listed position
+unfoldable pub fitsSeen : Seen → List ℕ → List ℕ → Bool
+fitsSeen s kinds macs =
+    setupFits (s .setup) &&
+    ((s .ok && all (apartFrom macs) (min (s .top) 40)) &&
+    (phaseFits (phaseOf (s .state .stand)) (typed kinds) (bare (s .state .head)) &&
+    (seekFits (phaseOf (s .state .stand)) (s .setup .k) (s .state .found) &&
+    (leb (s .state .searched) 1 && ((eqb (s .state .held) 0 || (eqb (s .state .held) 1 && ltb 0 (s .top))) && leb (s .state .last) (s .setup .k))))))
+
+-- the columns are those of the records, and the highest listed position is theirs
+pub record Columned (s : Seen) (ks os ms : List ℕ) (t : List Node) : Type 0 where
+  pub kinds : ks ≡ kindsOf t
+  pub marks : os ≡ marksOf t
+  pub macs : ms ≡ macsOf t
+  pub top : s .top ≡ highestListed t
+
+-- this was seen of a coordinator and forty records; of records that are not fit the columns need not be told
+pub record Sees (s : Seen) (ks os ms : List ℕ) (c : Coordinator) (t : List Node) : Type 0 where
+  pub forty : length t ≡ 40
+  pub setup : s .setup ≡ c .setup
+  pub state : s .state ≡ stateOf c
+  pub each : s .ok ≡ recordsFit (c .setup .k) t
+  pub columns : s .ok ≡ true → Columned s ks os ms t
+
+-- this was seen of a coordinator and records that are fit
+pub record Saw (s : Seen) (c : Coordinator) (t : List Node) : Type 0 where
+  pub fit : fits c t ≡ true
+  pub setup : s .setup ≡ c .setup
+  pub state : s .state ≡ stateOf c
+  pub top : s .top ≡ highestListed t
+
+-- and these are the columns of the records: of their types, of types and marks, of types, marks and MACs
+abbrev pub OfTypes : List ℕ → Coordinator → List Node → Type 0
+OfTypes kinds c t = kinds ≡ kindsOf t
+
+abbrev pub OfMarks : List ℕ → List ℕ → Coordinator → List Node → Type 0
+OfMarks kinds marks c t = (kinds ≡ kindsOf t) × (marks ≡ marksOf t)
+
+abbrev pub OfColumns : List ℕ → List ℕ → List ℕ → Coordinator → List Node → Type 0
+OfColumns kinds marks macs c t = (kinds ≡ kindsOf t) × (marks ≡ marksOf t) × (macs ≡ macsOf t)
