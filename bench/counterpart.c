@@ -73,16 +73,16 @@ ct_refusal ct_write(const struct ct_header *header, const uint8_t *payload, size
 
 /* ---- finder ---- */
 
-struct ct_finding ct_find(const uint8_t *bytes, size_t count, size_t budget) {
+ct_finding ct_find(const uint8_t *bytes, size_t count, size_t budget) {
     size_t starts = count < CT_OVERHEAD ? 0 : count - (CT_OVERHEAD - 1);
     size_t limit = budget < starts ? budget : starts;
     for (size_t at = 0; at < limit; at++) {
         size_t length = CT_OVERHEAD + bytes[at + 9];
         if (length <= CT_FRAME && length <= count - at && ct_good(bytes + at, length))
-            return (struct ct_finding){CT_FOUND, at, length, at + 1};
+            return (ct_finding){NADRELGOS_FOUND, at, length, at + 1};
     }
-    if (budget < starts) return (struct ct_finding){CT_SPENT, 0, 0, budget};
-    return (struct ct_finding){CT_NOTHING, 0, 0, starts};
+    if (budget < starts) return (ct_finding){NADRELGOS_SPENT, 0, 0, budget};
+    return (ct_finding){NADRELGOS_NOTHING, 0, 0, starts};
 }
 
 /* ---- boards and positions; position p is nodes[p - 1] ---- */

@@ -24,13 +24,6 @@ struct ct_frame {
     size_t length;
 };
 
-enum ct_found { CT_FOUND = 1, CT_NOTHING, CT_SPENT };
-
-struct ct_finding {
-    enum ct_found found;
-    size_t start, length, tried;
-};
-
 /* The stages of a panel, by their numbers in its record. */
 enum ct_stage {
     CT_STAGE_RESTING,
@@ -58,11 +51,12 @@ struct ct_answer {
 typedef enum nadrelgos_refusal_number ct_refusal;
 typedef struct nadrelgos_coordinator ct_coordinator;
 typedef struct nadrelgos_node ct_node;
+typedef struct nadrelgos_finding ct_finding;
 
 bool ct_good(const uint8_t *bytes, size_t count);
 ct_refusal ct_read(const uint8_t *bytes, size_t count, struct ct_frame *frame);
 ct_refusal ct_write(const struct ct_header *header, const uint8_t *payload, size_t length, uint8_t *out, size_t room);
-struct ct_finding ct_find(const uint8_t *bytes, size_t count, size_t budget);
+ct_finding ct_find(const uint8_t *bytes, size_t count, size_t budget);
 
 struct ct_answer ct_setup(ct_coordinator *c, ct_node *nodes, size_t nodes_count, const uint8_t *addresses, size_t k,
                           uint8_t subnet, uint8_t internal, uint64_t mac, uint64_t session);

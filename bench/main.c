@@ -82,8 +82,8 @@ static size_t list_proved(struct work *w, size_t times) {
     size_t frames = 0;
     while (times-- > 0)
         for (size_t at = 0;;) {
-            struct find_numbers f = measure_find(w->bytes + at, w->count - at, w->count);
-            if (f.number != CT_FOUND) break;
+            struct nadrelgos_finding f = nadrelgos_find(w->bytes + at, w->count - at, w->count);
+            if (f.number != NADRELGOS_FOUND) break;
             at += f.start + f.length;
             frames++;
         }
@@ -94,8 +94,8 @@ static size_t list_counterpart(struct work *w, size_t times) {
     size_t frames = 0;
     while (times-- > 0)
         for (size_t at = 0;;) {
-            struct ct_finding f = ct_find(w->bytes + at, w->count - at, w->count);
-            if (f.found != CT_FOUND) break;
+            ct_finding f = ct_find(w->bytes + at, w->count - at, w->count);
+            if (f.number != NADRELGOS_FOUND) break;
             at += f.start + f.length;
             frames++;
         }

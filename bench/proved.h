@@ -1,4 +1,4 @@
-/* The functions of crates/measure as C calls them. The panel's face is include/nadrelgos.h. */
+/* The functions of crates/measure as C calls them. The panel's face and the finder's are include/nadrelgos.h. */
 #ifndef PROVED_H
 #define PROVED_H
 
@@ -15,15 +15,9 @@ struct write_numbers {
     size_t written;
 };
 
-struct find_numbers {
-    uint8_t number;
-    size_t start, length, tried;
-};
-
 bool measure_good(const uint8_t *bytes, size_t count);
 struct read_numbers measure_read(const uint8_t *bytes, size_t count);
 struct write_numbers measure_write(struct ct_header header, const uint8_t *payload, size_t length, uint8_t *out,
                                    size_t room);
-struct find_numbers measure_find(const uint8_t *bytes, size_t count, size_t budget);
 
 #endif

@@ -80,9 +80,9 @@ static bool same_writing(const uint8_t *bytes, size_t length, size_t room) {
 }
 
 static bool same_finding(const uint8_t *bytes, size_t count, size_t budget) {
-    struct find_numbers a = measure_find(bytes, count, budget);
-    struct ct_finding b = ct_find(bytes, count, budget);
-    return a.number == b.found && a.start == b.start && a.length == b.length && a.tried == b.tried;
+    struct nadrelgos_finding a = nadrelgos_find(bytes, count, budget);
+    ct_finding b = ct_find(bytes, count, budget);
+    return a.number == b.number && a.start == b.start && a.length == b.length && a.tried == b.tried;
 }
 
 static bool same_wire(void) {
@@ -100,7 +100,7 @@ static bool same_wire(void) {
     for (size_t at = 0; at < CAPTURE; at++)
         if (!same_finding(capture + at, CAPTURE - at, CAPTURE) || !same_finding(capture, at, at / 2)) return false;
     make_worst(capture);
-    return same_finding(capture, CAPTURE, CAPTURE) && ct_find(capture, CAPTURE, CAPTURE).found == CT_NOTHING;
+    return same_finding(capture, CAPTURE, CAPTURE) && ct_find(capture, CAPTURE, CAPTURE).number == NADRELGOS_NOTHING;
 }
 
 /* ---- steps ---- */

@@ -2,11 +2,13 @@
  * Nadrelgos: the coordinator of a ClimateTalk CT-485 bus, for firmware in C (C11) or C++ (C++11).
  *
  * The archive libpanel.a, which `rt staticlib panel` proves and writes, has nadrelgos_setup, nadrelgos_step and, for
- * tools, nadrelgos_list, _clear and _mark. They are written in Rattle and proved to do what the definitions under
- * crates/ say, for every input; docs/PROMISES.md leads from each rule to its definition, its theorem and its code. This
- * header is not proved: it restates those definitions for whoever writes the firmware. The archive is for x86-64; the
- * assertions at the end stop a build whose records would be laid out otherwise. Of C's library it needs memcpy
- * and memset; a call takes up to some 1.5 kilobytes of stack, which `hosts/c/run stack` measures.
+ * tools, nadrelgos_list, _clear and _mark. A second one, libfinder.a (`rt staticlib finder`), has nadrelgos_find, for a
+ * host that cuts the line's bytes at a silence; a firmware that has whole frames from elsewhere need not link it. They
+ * are written in Rattle and proved to do what the definitions under crates/ say, for every input; docs/PROMISES.md
+ * leads from each rule to its definition, its theorem and its code. This header is not proved: it restates those
+ * definitions for whoever writes the firmware. The archives are for x86-64; the assertions at the end stop a build
+ * whose records would be laid out otherwise. Of C's library libpanel.a needs memcpy and memset, and a call of it takes
+ * up to some 1.5 kilobytes of stack, which `hosts/c/run stack` measures; libfinder.a needs nothing.
  *
  * WHO OWNS WHAT
  *   The host owns all memory: one coordinator record, forty node records, and the buffers. Nothing is allocated and
@@ -47,8 +49,8 @@
  *          refused 1 to 9, 23  it was not taken. The wait goes on, and so does the timer.
  *     4. Where the reply timer has run out and the wait is still on, call nadrelgos_quiet. The answer is
  *        NADRELGOS_REST; where the board missed its third message in a row it names the board dropped.
- *   The host's own part is the wire and the clock: when a frame begins and ends, how long a reply may take, the pauses
- *   between frames, and when to look for boards.
+ *   The host's own part is the wire and the clock: when a frame begins and ends (nadrelgos_find tells it of bytes that
+ *   came in), how long a reply may take, the pauses between frames, and when to look for boards.
  *
  * HOW A BOARD JOINS
  *   By an exchange that nadrelgos_discover starts and that turns, frames and quiets carry on, in the round above as all
@@ -325,6 +327,34 @@ uint64_t nadrelgos_clear(struct nadrelgos_node *nodes, size_t nodes_count, size_
 /* The node list owed to the board at the position; a free position stays as it is. */
 uint64_t nadrelgos_mark(struct nadrelgos_node *nodes, size_t nodes_count, size_t position);
 
+/* What nadrelgos_find found. */
+enum nadrelgos_finding_number {
+    NADRELGOS_FOUND = 1,   /* a good frame */
+    NADRELGOS_NOTHING = 2, /* no good frame begins at any start */
+    NADRELGOS_SPENT = 3    /* none begins at the starts that the budget allowed, and there are more */
+};
+
+struct nadrelgos_finding {
+    uint8_t number; /* one of enum nadrelgos_finding_number */
+    size_t start;   /* where the frame begins, from 0 on; 0 where none was found */
+    size_t length;  /* of the frame, check bytes included: 12 to NADRELGOS_ROOM; 0 where none was found */
+    size_t tried;   /* how many starts were tried, the found one counted */
+};
+
+/*
+ * The first good frame in bytes as the line brought them, where noise or several frames may stand between two silences.
+ * It is in libfinder.a.
+ *
+ *   bytes, count           what came in. It is only read
+ *   budget                 how many starts are tried at most: the time is bounded by it. count always suffices
+ *
+ * A start is a place with at least 12 bytes from it to the end; they are tried from the first on. One holds a good
+ * frame if its payload length, the byte 9 places on, is at most 240, 12 bytes and that many more are there, and their
+ * two sums are 0: nadrelgos_frame, given length bytes at bytes + start, never refuses them 1 to 4. After a frame a host
+ * goes on at start + length, after NADRELGOS_SPENT at tried, with the bytes that are left.
+ */
+struct nadrelgos_finding nadrelgos_find(const uint8_t *bytes, size_t count, size_t budget);
+
 /*
  * The parts of an answer, low byte first: the refusal's number, the answer, the board awaited, its exchange, the
  * position joined, the position dropped, and in two bytes the count of bytes written. Positions are 1 to k, 0 for none.
@@ -417,11 +447,11 @@ static inline uint64_t nadrelgos_quiet(struct nadrelgos_coordinator *coordinator
                           0);
 }
 
-/* The layout that the archive was built with. */
+/* The layout that the archives were built with. */
 #if defined(__cplusplus) && __cplusplus >= 201103L
-#define NADRELGOS_LAID_OUT(test) static_assert(test, "the records are not laid out as libpanel.a has them: " #test)
+#define NADRELGOS_LAID_OUT(test) static_assert(test, "the records are not laid out as the archives have them: " #test)
 #elif defined(__STDC_VERSION__) && __STDC_VERSION__ >= 201112L
-#define NADRELGOS_LAID_OUT(test) _Static_assert(test, "the records are not laid out as libpanel.a has them: " #test)
+#define NADRELGOS_LAID_OUT(test) _Static_assert(test, "the records are not laid out as the archives have them: " #test)
 #endif
 #ifdef NADRELGOS_LAID_OUT
 NADRELGOS_LAID_OUT(sizeof(size_t) == 8);
@@ -468,6 +498,12 @@ NADRELGOS_LAID_OUT(offsetof(struct nadrelgos_coordinator, searched) == 81);
 NADRELGOS_LAID_OUT(offsetof(struct nadrelgos_coordinator, stand) == 88);
 NADRELGOS_LAID_OUT(offsetof(struct nadrelgos_coordinator, kept) == 112);
 NADRELGOS_LAID_OUT(offsetof(struct nadrelgos_coordinator, found) == 368);
+
+NADRELGOS_LAID_OUT(sizeof(struct nadrelgos_finding) == 32);
+NADRELGOS_LAID_OUT(offsetof(struct nadrelgos_finding, number) == 0);
+NADRELGOS_LAID_OUT(offsetof(struct nadrelgos_finding, start) == 8);
+NADRELGOS_LAID_OUT(offsetof(struct nadrelgos_finding, length) == 16);
+NADRELGOS_LAID_OUT(offsetof(struct nadrelgos_finding, tried) == 24);
 #undef NADRELGOS_LAID_OUT
 #endif
 

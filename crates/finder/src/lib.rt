@@ -4,6 +4,7 @@ ghost use Prim.Native.Nat.{_+_, _-_, _≤_, _<_};
 ghost use lib.ListN.{length};
 ghost use Rattle.ground.specs.Below.{firstOr, upFrom};
 ghost use Rattle.finder.specs.Finder.{lengthAt, holdsFrame, finding, told};
+ghost use Rattle.finder.specs.Numbers.{findNumbers};
 
 // What looking finds, and how many starts were tried: the found one counted, all of them, or the whole budget.
 pub enum Finding {
@@ -14,6 +15,15 @@ pub enum Finding {
     },
     Nothing(usize),
     Spent(usize),
+}
+
+// The same as plain numbers, for C: 1 for Found, 2 for Nothing, 3 for Spent. Start and length are 0 where nothing was found.
+#[repr(C)]
+pub struct FindNumbers {
+    pub number: u8,
+    pub start: usize,
+    pub length: usize,
+    pub tried: usize,
 }
 
 // How many places of a stretch this long have the twelve bytes of a shortest frame before the end.
@@ -84,5 +94,36 @@ pub fn find(bytes: &[u8], budget: usize) -> Finding
         Finding::Spent(budget)
     } else {
         Finding::Nothing(starts)
+    }
+}
+
+// What `find` finds, for C.
+#[no_mangle]
+pub extern "C" fn nadrelgos_find(bytes: &[u8], budget: usize) -> FindNumbers
+    ensures { λ r. ⌜ r ≡ findNumbers (finding (now (bytes .entry)) budget) ⌝ }
+{
+    match find(bytes, budget) {
+        Finding::Found {
+            start,
+            length,
+            tried,
+        } => FindNumbers {
+            number: 1,
+            start: start,
+            length: length,
+            tried: tried,
+        },
+        Finding::Nothing(tried) => FindNumbers {
+            number: 2,
+            start: 0,
+            length: 0,
+            tried: tried,
+        },
+        Finding::Spent(tried) => FindNumbers {
+            number: 3,
+            start: 0,
+            length: 0,
+            tried: tried,
+        },
     }
 }

@@ -7,11 +7,9 @@ use denote.Ref.{RefT, now}
 use Rattle.frame.specs.declared.Header.{Header}
 use Rattle.measure.specs.declared.ReadNumbers.{ReadNumbers}
 use Rattle.measure.specs.declared.WriteNumbers.{WriteNumbers}
-use Rattle.measure.specs.declared.FindNumbers.{FindNumbers}
 use Rattle.measure.proofs.measure_good.Reads as good
 use Rattle.measure.proofs.measure_read.Reads as read
 use Rattle.measure.proofs.measure_write.Reads as write
-use Rattle.measure.proofs.measure_find.Reads as find
 
 pub unique-measure-good : (κs a s t : _) (r q : Bool) → good.Post κs a r s → good.Post κs a q t → r ≡ q
 unique-measure-good κs a s t r q p p′ = p ∙ sym p′
@@ -25,6 +23,3 @@ Written = Header × (RefT (List ℕ) × (RefT (List ℕ) × Unit {0}))
 
 pub unique-measure-write : (κs : _) (a s t : Written) (r q : WriteNumbers) → write.Post κs a r s → write.Post κs a q t → (r ≡ q) × (now (s .1 .1 .0) ≡ now (t .1 .1 .0))
 unique-measure-write κs a s t r q p p′ = (p .0 ∙ sym (p′ .0), p .1 ∙ sym (p′ .1))
-
-pub unique-measure-find : (κs a s t : _) (r q : FindNumbers) → find.Post κs a r s → find.Post κs a q t → r ≡ q
-unique-measure-find κs a s t r q p p′ = p ∙ sym p′

@@ -1,12 +1,9 @@
 -- What a C caller is given: what an answer says, place by place, 0 where it has no such value.
 use Prim.Native.Nat.{ℕ}
 use lib.ListN.{getD}
-use lib.Dec.{eqb}
-use Rattle.ground.specs.Choose.{choose}
 use Rattle.refusal.specs.Refusal.{Told}
 use Rattle.measure.specs.declared.ReadNumbers.{ReadNumbers}
 use Rattle.measure.specs.declared.WriteNumbers.{WriteNumbers}
-use Rattle.measure.specs.declared.FindNumbers.{FindNumbers}
 
 -- the value at a place of what is said
 abbrev pub value : Told → ℕ → ℕ
@@ -32,10 +29,3 @@ readNumbers t =
 
 abbrev pub writeNumbers : Told → WriteNumbers
 writeNumbers t = record { refusal = t .number; written = value t 0 }
-
--- Found says start, length and starts tried, Nothing and Spent the starts tried alone
-unfoldable pub findNumbers : Told → FindNumbers
-findNumbers t =
-    choose (eqb (t .number) 1)
-    (record { number = t .number; start = value t 0; length = value t 1; tried = value t 2 })
-    (record { number = t .number; start = 0; length = 0; tried = value t 0 })

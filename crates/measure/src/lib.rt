@@ -1,5 +1,4 @@
 // What the benchmark calls: the proved functions for C, each with its answer as plain numbers.
-use finder::Finding;
 use frame::Header;
 use frame::Reading;
 use frame::Writing;
@@ -8,8 +7,7 @@ ghost use lib.ListN.{length};
 ghost use Rattle.ground.specs.Bytes.{laid};
 ghost use Rattle.fletcher.specs.Fletcher.{isGood};
 ghost use Rattle.frame.specs.Frame.{reading, writing, writtenBytes};
-ghost use Rattle.finder.specs.Finder.{finding};
-ghost use Rattle.measure.specs.Numbers.{readNumbers, writeNumbers, findNumbers};
+ghost use Rattle.measure.specs.Numbers.{readNumbers, writeNumbers};
 
 // A reading: the refusal's number or 0, and the header and the payload's length, all 0 on a refusal.
 #[repr(C)]
@@ -24,15 +22,6 @@ pub struct ReadNumbers {
 pub struct WriteNumbers {
     pub refusal: u8,
     pub written: usize,
-}
-
-// A finding: 1 for Found, 2 for Nothing, 3 for Spent. Start and length are 0 where nothing was found.
-#[repr(C)]
-pub struct FindNumbers {
-    pub number: u8,
-    pub start: usize,
-    pub length: usize,
-    pub tried: usize,
 }
 
 // Whether bytes are good.
@@ -90,37 +79,6 @@ pub extern "C" fn measure_write(header: Header, payload: &[u8], out: &mut [u8]) 
         Writing::Refused(refusal) => WriteNumbers {
             refusal: refusal::number(refusal),
             written: 0,
-        },
-    }
-}
-
-// Looks for a good frame.
-#[no_mangle]
-pub extern "C" fn measure_find(bytes: &[u8], budget: usize) -> FindNumbers
-    ensures { λ r. ⌜ r ≡ findNumbers (finding (now (bytes .entry)) budget) ⌝ }
-{
-    match finder::find(bytes, budget) {
-        Finding::Found {
-            start,
-            length,
-            tried,
-        } => FindNumbers {
-            number: 1,
-            start: start,
-            length: length,
-            tried: tried,
-        },
-        Finding::Nothing(tried) => FindNumbers {
-            number: 2,
-            start: 0,
-            length: 0,
-            tried: tried,
-        },
-        Finding::Spent(tried) => FindNumbers {
-            number: 3,
-            start: 0,
-            length: 0,
-            tried: tried,
         },
     }
 }

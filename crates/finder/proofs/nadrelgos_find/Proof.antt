@@ -1,11 +1,11 @@
--- `measure::measure_find` meets its contract: its numbers are those of what `find` says.
+-- `finder::nadrelgos_find` meets its contract: its numbers are those of what `find` says.
 use mathlib.Core.Path.{sym, ap, _∙_}
 use Rattle.ground.specs.Choose.{choose}
 use Rattle.finder.specs.Finder.{told}
-use Rattle.measure.specs.Numbers.{findNumbers}
+use Rattle.finder.specs.Numbers.{findNumbers}
 use borrow.Author.Needs.{needs}
-use Rattle.measure.proofs.measure_find.Statement.{statement}
-use Rattle.measure.proofs.measure_find.Tie as tie
+use Rattle.finder.proofs.nadrelgos_find.Statement.{statement}
+use Rattle.finder.proofs.nadrelgos_find.Tie as tie
 
 find-requires : tie.Need-find-requires
 find-requires c κs = search needs
@@ -31,8 +31,8 @@ returns-3 : tie.Need-returns-3
 unfolding findNumbers choose
 returns-3 c = ap findNumbers (ap told (sym (c .before .tried2 .given .1)) ∙ c .before .before .before .find .ensures)
 
-pub measure-find-spec : {M : Type 1} → statement M
-measure-find-spec =
+pub nadrelgos-find-spec : {M : Type 1} → statement M
+nadrelgos-find-spec =
     tie.close
     (tie.spec
     find-requires
