@@ -50,7 +50,7 @@ static void discover(struct bus *bus) {
 static void assign(struct bus *bus, const uint8_t *frame) {
     for (unsigned i = 0; i < BUS_BOARDS; i++) {
         struct board *board = &bus->boards[i];
-        if (!board->powered || !client_is_meant(board, frame)) continue;
+        if (!board->powered || !wire_assigns(frame, board->mac, board->session)) continue;
         board->messages++;
         board->heard = bus->seconds;
         if (scene_lapse(board->kind, board->messages) != MISSES) client_take(board, &bus->line, frame);

@@ -11,9 +11,6 @@ unsigned client_delay(struct board *board);
 /* The slot delay is over and the line was silent: it answers type, MAC and session. */
 void client_answer(const struct board *board, struct line *line);
 
-/* Whether Set Address is for this board: its own MAC and session, and the last byte 1. */
-bool client_is_meant(const struct board *board, const uint8_t *frame);
-
 /* It takes the address, and answers from there with the same payload. */
 void client_take(struct board *board, struct line *line, const uint8_t *frame);
 

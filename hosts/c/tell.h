@@ -1,29 +1,26 @@
-/* What the host prints: a line of text for each call. A firmware leaves these out. */
+/* What the loop tells of, call by call: each of these is handed the answer to it, refused or not. A firmware leaves
+   them out; this host prints a line of text (tell.c). */
 #ifndef TELL_H
 #define TELL_H
 
 #include "panel.h"
 
-/* Begins the line of a call, with its number. */
-void tell_call(const char *event);
+void tell_setup(const struct panel *panel, uint64_t answer);
 
-/* The number by which the call was refused, 0 where it was not; tells it, and what the loop does about it. */
-unsigned tell_refused(uint64_t answer, const char *then);
+void tell_discover(const struct panel *panel, uint64_t answer);
 
-void tell_setup(const struct panel *panel);
+void tell_turn(const struct panel *panel, uint64_t answer);
 
-/* What was sent, by an answer that waits. */
-void tell_sent(const struct panel *panel, uint64_t wait);
+/* `count` bytes have come in, panel->received, in the wait that began with this answer. */
+void tell_frame(const struct panel *panel, uint64_t wait, size_t count, uint64_t answer);
 
-/* What the frame received was in this wait, by the answer to it. */
-void tell_taken(const struct panel *panel, uint64_t wait, uint64_t answer);
-
-/* What it meant that no answer came in this wait. The board at the position was this one before. */
+/* No answer came in this wait. The record at the position awaited was this one before. */
 void tell_quiet(const struct panel *panel, uint64_t wait, struct nadrelgos_node before, uint64_t answer);
 
-/* A request for the host. */
-void tell_request(const uint8_t *frame);
+/* A request for the host, which ended this wait. */
+void tell_request(const struct panel *panel, uint64_t wait, const uint8_t *frame);
 
+/* Who is listed. The loop does not ask for it. */
 void tell_table(const struct panel *panel);
 
 #endif

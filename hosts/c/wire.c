@@ -33,6 +33,25 @@ size_t wire_ack(uint8_t *frame, struct sender from, uint64_t mac, uint64_t sessi
     return wire_frame(frame, from, TYPE_R2R, DATAFLOW, 0, 0, payload, sizeof payload);
 }
 
+void wire_put_found(uint8_t *payload, uint8_t kind, uint64_t mac, uint64_t session) {
+    payload[0] = kind;
+    payload[1] = 0; /* reserved */
+    wire_put_word(payload + 2, mac);
+    wire_put_word(payload + 10, session);
+}
+
+void wire_put_id(uint8_t *payload, uint8_t kind, uint64_t mac, uint64_t session) {
+    payload[0] = kind;
+    wire_put_word(payload + 1, mac);
+    wire_put_word(payload + 9, session);
+}
+
+bool wire_assigns(const uint8_t *frame, uint64_t mac, uint64_t session) {
+    const uint8_t *payload = frame + AT_PAYLOAD;
+    return frame[AT_LENGTH] == ASSIGN_LENGTH && wire_word(payload + ASSIGN_MAC) == mac &&
+           wire_word(payload + ASSIGN_SESSION) == session && payload[ASSIGN_WRITE] == 1;
+}
+
 uint64_t wire_word(const uint8_t *bytes) {
     uint64_t word = 0;
     for (unsigned i = 8; i > 0; i--) word = word << 8 | bytes[i - 1];

@@ -21,6 +21,12 @@ enum { TYPE_R2R = 0x00, TYPE_CONTROL = 0x03, TYPE_DISPLAY = 0x04, TYPE_LIST = 0x
 /* The first byte of an R2R frame's payload, the length of that, and its packet number (API Reference, 6.1 and 4.3). */
 enum { CODE_OFFER = 0x00, CODE_ACK = 0x06, R2R_LENGTH = 17, DATAFLOW = 0x80 };
 
+/* The payloads by which a board gets its address (API Reference, tables 57 to 62): Node Discovery's filter; the
+   responses to it and to Get Node ID; Set Address, which is answered by the same. */
+enum { DISCOVER_LENGTH = 1, DISCOVER_FILTER = 0, FOUND_LENGTH = 18, ID_LENGTH = 17 };
+enum { ASSIGN_LENGTH = 19, ASSIGN_ADDRESS = 0, ASSIGN_SUBNET = 1, ASSIGN_MAC = 2, ASSIGN_SESSION = 10,
+       ASSIGN_WRITE = 18 };
+
 /* Who sends a frame. */
 struct sender {
     uint8_t address, subnet, kind;
@@ -32,6 +38,14 @@ size_t wire_frame(uint8_t *frame, struct sender from, uint8_t type, uint8_t pack
 
 /* Writes an ACK to the panel: the code, the sender's MAC and its session. */
 size_t wire_ack(uint8_t *frame, struct sender from, uint64_t mac, uint64_t session);
+
+/* The payloads of the responses to Node Discovery and to Get Node ID: type, MAC and session. */
+void wire_put_found(uint8_t *payload, uint8_t kind, uint64_t mac, uint64_t session);
+void wire_put_id(uint8_t *payload, uint8_t kind, uint64_t mac, uint64_t session);
+
+/* Whether Set Address is for this board: its own MAC and session, and the last byte 1 (Networking Specification,
+   11.12). */
+bool wire_assigns(const uint8_t *frame, uint64_t mac, uint64_t session);
 
 /* Eight bytes as a number, and a number as eight bytes, low byte first: MACs and sessions. */
 uint64_t wire_word(const uint8_t *bytes);

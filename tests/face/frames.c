@@ -11,7 +11,7 @@
 
 enum { FOUND = TYPE_DISCOVER + TYPE_RESPONSE, ASSIGNED = TYPE_ASSIGN + TYPE_RESPONSE,
        IDENTIFIED = TYPE_IDENTIFY + TYPE_RESPONSE };
-enum { FOUND_LENGTH = 18, ASSIGN_LENGTH = 19, ID_LENGTH = 17, ACK_BYTES = 29, PANEL_TYPE = 165 };
+enum { ACK_BYTES = 29, PANEL_TYPE = 165 };
 
 /* The frame that comes in, and the room for the answer to it. */
 static size_t count, room;

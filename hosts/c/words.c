@@ -1,0 +1,155 @@
+#include "words.h"
+
+#include "wire.h"
+
+#include <stdarg.h>
+#include <stdio.h>
+
+#define COUNT(table) (sizeof(table) / sizeof *(table))
+
+/* ---- names */
+
+/* The node types that our papers name (Networking Specification, 6.3.2 and Table 3). */
+const char *words_kind(unsigned kind) {
+    switch (kind) {
+    case 1: return "thermostat";
+    case 2: return "furnace";
+    case 3: return "air handler";
+    case 4: return "air conditioner";
+    case 5: return "heat pump";
+    case 9: return "crossover";
+    case 21: return "zone controller";
+    default: return "board";
+    }
+}
+
+const char *words_refusal(unsigned refusal) {
+    static const char *const names[] = {
+        "accepted", "short", "over-long", "length mismatch", "bad checksum", "not for us", "not awaited",
+        "unexpected type", "bad echo", "bad method", "payload too long", "no room", "bad type", "bad MAC", "busy",
+        "held", "full", "retired", "awaiting reply", "nobody listed", "not waiting", "bad pool", "state unfit",
+        "not discovering",
+    };
+    return refusal < COUNT(names) ? names[refusal] : "unknown";
+}
+
+const char *words_exchange(unsigned exchange) {
+    static const char *const names[] = {"none", "offer", "list", "forward", "return", "search", "identify", "assign"};
+    return exchange < COUNT(names) ? names[exchange] : "unknown";
+}
+
+unsigned words_address(const struct panel *panel, unsigned position) {
+    return panel->coordinator.setup.pool[position - 1];
+}
+
+static const char *board_name(const struct panel *panel, unsigned position) {
+    return words_kind(panel->nodes[position - 1].kind);
+}
+
+/* ---- sentences */
+
+/* Sets the words, as printf would print them. */
+static void say(struct words *words, const char *format, ...) {
+    va_list values;
+    va_start(values, format);
+    vsnprintf(words->text, sizeof words->text, format, values);
+    va_end(values);
+}
+
+void words_sent(struct words *words, const struct panel *panel, uint64_t wait) {
+    static const char *const sent[] = {"", "offer", "list", "request forwarded", "response returned"};
+    unsigned position = nadrelgos_board(wait), exchange = nadrelgos_exchange(wait);
+    unsigned address = words_address(panel, position), count = (unsigned)nadrelgos_written(wait);
+    switch (exchange) {
+    case NADRELGOS_SEARCH: say(words, "Node Discovery, position %u is free, %u bytes", position, count); break;
+    case NADRELGOS_IDENTIFY: say(words, "Get Node ID to address %u, %u bytes", address, count); break;
+    case NADRELGOS_ASSIGN:
+        say(words, "Set Address %u to the %s, %u bytes", address, words_kind(panel->coordinator.found.kind), count);
+        break;
+    default: say(words, "%s to the %s, %u bytes", sent[exchange], board_name(panel, position), count); break;
+    }
+}
+
+/* A frame that the exchange by which a board joins has taken. */
+static void say_joining(struct words *words, const struct panel *panel, uint64_t wait, uint64_t answer) {
+    unsigned position = nadrelgos_board(wait), address = words_address(panel, position);
+    const char *name = words_kind(panel->received[AT_PAYLOAD]); /* of who gives its type first */
+    if (nadrelgos_joined(answer))
+        say(words, "the %s %s address %u; ACK sent. Joined, position %u", board_name(panel, position),
+            nadrelgos_exchange(wait) == NADRELGOS_ASSIGN ? "takes" : "has", address, position);
+    else if (nadrelgos_answer(answer) == NADRELGOS_WAIT)
+        say(words, "ACK from address %u, its ID to come", address);
+    else if (nadrelgos_answer(answer) == NADRELGOS_TRANSMIT)
+        say(words, "the %s has address %u and cannot join there; ACK sent", name, address);
+    else if (panel->coordinator.stand.stage == IDENTIFY_DUE)
+        say(words, "the %s has no address; position %u for it", name, (unsigned)panel->coordinator.stand.board);
+    else
+        say(words, "the %s has no address, and cannot join", name);
+}
+
+/* What the frame of a listed board was, and what became of it. */
+static const char *taken(const struct panel *panel, unsigned exchange, uint64_t answer) {
+    bool is_kept = panel->coordinator.stand.stage == FORWARD_DUE;
+    switch (nadrelgos_answer(answer)) {
+    case NADRELGOS_WAIT: return "ACK, response to come";
+    case NADRELGOS_REST: return exchange == NADRELGOS_RETURN ? "ACK, response received" : "ACK";
+    case NADRELGOS_DELIVER: return "request to us; ACK sent";
+    default: break;
+    }
+    if (exchange == NADRELGOS_LIST) return "list echoed; ACK sent";
+    if (exchange == NADRELGOS_FORWARD) return "response; ACK sent";
+    return is_kept ? "request for another board; ACK sent" : "request that no board is there for: discarded; ACK sent";
+}
+
+void words_taken(struct words *words, const struct panel *panel, uint64_t wait, uint64_t answer) {
+    unsigned exchange = nadrelgos_exchange(wait);
+    if (exchange >= NADRELGOS_SEARCH)
+        say_joining(words, panel, wait, answer);
+    else
+        say(words, "from the %s, %s", board_name(panel, nadrelgos_board(wait)), taken(panel, exchange, answer));
+}
+
+/* No answer in the exchange by which a board joins. */
+static void say_nobody(struct words *words, const struct panel *panel, uint64_t wait) {
+    unsigned address = words_address(panel, nadrelgos_board(wait));
+    bool is_free = panel->coordinator.stand.stage == ASSIGN_DUE;
+    if (nadrelgos_exchange(wait) == NADRELGOS_SEARCH)
+        say(words, "no board is without an address");
+    else if (nadrelgos_exchange(wait) == NADRELGOS_ASSIGN)
+        say(words, "address %u is not taken: broken off", address);
+    else
+        say(words, "address %u %s", address, is_free ? "is free" : "is somebody's who gives no ID: broken off");
+}
+
+void words_quiet(struct words *words, const struct panel *panel, uint64_t wait, struct nadrelgos_node before,
+                 uint64_t answer) {
+    unsigned position = nadrelgos_board(wait);
+    const struct nadrelgos_node *after = &panel->nodes[position - 1];
+    const char *name = words_kind(before.kind);
+    if (nadrelgos_exchange(wait) >= NADRELGOS_SEARCH)
+        say_nobody(words, panel, wait);
+    else if (nadrelgos_dropped(answer))
+        say(words, "no answer from the %s, the third in a row: dropped from position %u", name, position);
+    else if (after->misses == before.misses)
+        say(words, "no response from the %s after its ACK: no miss", name);
+    else
+        say(words, "no answer from the %s: %u in a row", name, after->misses);
+}
+
+/* Bytes as text; what is no printable character is a dot. */
+static void put_text(char *text, const uint8_t *bytes, size_t count) {
+    for (size_t i = 0; i < count; i++) text[i] = bytes[i] >= ' ' && bytes[i] <= '~' ? (char)bytes[i] : '.';
+    text[count] = '\0';
+}
+
+void words_request(struct words *words, const uint8_t *frame) {
+    unsigned type = frame[AT_TYPE], count = frame[AT_LENGTH];
+    const uint8_t *payload = frame + AT_PAYLOAD;
+    char text[64];
+    if (type == TYPE_DISPLAY && count >= 2 && payload[1] == count - 2 && payload[1] < sizeof text) {
+        put_text(text, payload + 2, payload[1]);
+        say(words, "for the host: to be displayed, \"%s\"", text);
+    } else {
+        say(words, "for the host: request %u with %u bytes", type, count);
+    }
+}

@@ -1,0 +1,35 @@
+/* What happens, in words: names, and a sentence for what each call did. */
+#ifndef WORDS_H
+#define WORDS_H
+
+#include "panel.h"
+
+/* The stages in which the panel rests, and in which something is to be sent at the next turn. */
+enum { RESTING = 0, FORWARD_DUE = 6, RETURN_DUE = 7, IDENTIFY_DUE = 9, ASSIGN_DUE = 12 };
+
+struct words {
+    char text[128];
+};
+
+/* A node type, a refusal by its number, and an exchange by its number. */
+const char *words_kind(unsigned kind);
+const char *words_refusal(unsigned refusal);
+const char *words_exchange(unsigned exchange);
+
+/* The address at a position. */
+unsigned words_address(const struct panel *panel, unsigned position);
+
+/* What was sent, by an answer that waits. */
+void words_sent(struct words *words, const struct panel *panel, uint64_t wait);
+
+/* What the frame received was in this wait, by the answer that took it. */
+void words_taken(struct words *words, const struct panel *panel, uint64_t wait, uint64_t answer);
+
+/* What it meant that no answer came in this wait. The board at the position was this one before. */
+void words_quiet(struct words *words, const struct panel *panel, uint64_t wait, struct nadrelgos_node before,
+                 uint64_t answer);
+
+/* A request for the host. */
+void words_request(struct words *words, const uint8_t *frame);
+
+#endif
