@@ -13,8 +13,9 @@ kit_emulator=$kit_tools/bin/qemu-x86_64
 kit_headers=''
 kit_under=''
 
-# The kit has no C headers: those of this machine's compiler serve. On Arm they are Arm's, and of what is included here
-# (stdbool, stddef, stdint, stdio, stdlib, string, time) nothing that is used differs on x86-64.
+# The kit has no C headers: those of this machine's compiler serve. On Arm they are Arm's, and of what is used here nothing differs on x86-64: C's
+# own headers, and of POSIX's and Linux's the terminal's settings, poll, signals, clocks and the flags of open that are named (O_DIRECT, O_DIRECTORY,
+# O_NOFOLLOW, O_LARGEFILE and struct stat do differ).
 kit_find_headers() {
     command -v gcc >/dev/null || apt-get install -y gcc libc6-dev >/dev/null || exit 2
     kit_headers=-nostdinc

@@ -1,0 +1,16 @@
+/* How often what has happened. */
+#ifndef COUNTS_H
+#define COUNTS_H
+
+#include <stdint.h>
+
+/* The refusals' numbers are below this one. */
+enum { REFUSALS = 24 };
+
+struct counts {
+    unsigned long offers, carried, misses, drops, joins;
+    unsigned long refused[REFUSALS];
+    uint64_t noise; /* bytes in no frame */
+};
+
+#endif

@@ -1,0 +1,330 @@
+"""Plays houses on the panel for a serial line and holds what it says, its lines of JSON, to what must happen. Times are shorter by the option --faster."""
+import fcntl
+import os
+import random
+import select
+import struct
+import subprocess
+import sys
+import termios
+import threading
+import time
+
+from played import Boards, Failed, Panel, Program, command_of
+
+FASTER = 20
+SILENCE = ["--silence", "6"]  # milliseconds: pieces of a frame come closer together on a pseudo-terminal
+MACS = {"thermostat": "00001a2b00000101", "furnace": "00001a2b00000202", "heatpump": "00001a2b00000505"}
+# the heat call's payload: the command's code in two bytes, 70 percent, 0
+HEAT = "64004600"
+
+out = sys.argv[1]
+link = os.path.join(out, "line")
+
+
+def check(holds, what):
+    if not holds:
+        raise Failed(what)
+
+
+def payload(event):
+    return event["frame"][20:-4]
+
+
+def joined(panel, place=0, names=tuple(MACS), seconds=30):
+    """Waits until these boards have joined. Where each is: its event."""
+    return {name: panel.event("joined", place, seconds, mac=MACS[name])[1] for name in names}
+
+
+def answers(panel, position, place=0):
+    """Waits until the board answers an offer. Where that was said."""
+    return panel.event("taken", place, exchange="offer", position=position)[0] + 1
+
+
+def all_are_found(panel, boards):
+    """Three boards are found, identified, addressed and listed, and no join was given by hand."""
+    for name in MACS:
+        boards.order(f"plug {name}")
+    homes = joined(panel)
+    for name, home in homes.items():
+        position, address = home["position"], home["address"]
+        for exchange in "identify", "assign":
+            check(panel.events("sent", exchange=exchange, position=position), f"{name} had no {exchange}")
+        check(address == 15 + position, f"{name} is at address {address}")
+        boards.wait(f"{name} has its address", lambda line, n=name, a=address: line == f"{n}: address {a}")
+    types = "".join(f"{home['type']:02X}" for home in sorted(homes.values(), key=lambda home: home["position"]))
+    for name, home in homes.items():
+        _, sent = panel.wait(f"{name} gets the list of all", lambda e, h=home: e["event"] == "sent" and e["exchange"] == "list"
+                             and e["position"] == h["position"] and payload(e)[2:] == types)
+        panel.event("taken", panel.said.index(sent), exchange="list", position=home["position"])
+    return homes
+
+
+def heat_is_carried(panel, boards, homes):
+    """A heat call reaches the heat pump, and its answer comes back."""
+    place = panel.place()
+    boards.order("heat thermostat 70")
+    pump, thermostat = homes["heatpump"]["position"], homes["thermostat"]["position"]
+    for name, exchange, position in ("sent", "forward", pump), ("taken", "forward", pump), ("sent", "return", thermostat), \
+                                    ("taken", "return", thermostat):
+        place, event = panel.event(name, place, exchange=exchange, position=position)
+        check(exchange == "return" and name == "taken" or payload(event) == HEAT, f"{name} {exchange} carries {payload(event)}")
+    boards.wait("the call at the heat pump", lambda line: line == "heatpump: control command 64 00 46 00")
+    boards.wait("the answer at the thermostat", lambda line: line == "thermostat: answer 64 00 46 00")
+
+
+def single_misses_drop_nobody(panel, boards, homes):
+    """Forty misses of the furnace, one or two in a row, with an answer after each."""
+    position, place = homes["furnace"]["position"], panel.place()
+    first, misses = place, 0
+    while misses < 40:
+        in_a_row = 2 if misses % 8 == 0 else 1
+        boards.order(f"deaf furnace {in_a_row}")
+        place = panel.event("quiet", place, position=position, misses=in_a_row)[0] + 1
+        place = answers(panel, position, place)
+        misses += in_a_row
+    check(not panel.events("dropped", first), "a board was dropped, though never three in a row were missed")
+
+
+def unplugged_is_dropped(panel, boards, homes):
+    """An unplugged board is dropped at its third unanswered message in a row, and not before. Plugged in again it has its address."""
+    home, place = homes["furnace"], answers(panel, homes["furnace"]["position"], panel.place())
+    boards.order("unplug furnace")
+    end, _ = panel.event("dropped", place, position=home["position"], mac=home["mac"])
+    of_it = [e for e in panel.said[place:end] if e.get("position") == home["position"] and e.get("exchange") in
+             ("offer", "list", "forward", "return")]
+    last = max((i for i, e in enumerate(of_it) if e["event"] == "taken"), default=-1)
+    run = [(e["event"], e.get("misses")) for e in of_it[last + 1:]]
+    run = run[1:] if run[0][0] == "quiet" else run  # of a message before the order
+    check(run == [("sent", None), ("quiet", 1), ("sent", None), ("quiet", 2), ("sent", None), ("quiet", 3)],
+          f"the furnace was dropped after {run}")
+    place = panel.place()
+    boards.order("plug furnace")
+    again = joined(panel, place, ["furnace"])["furnace"]
+    check(again["address"] == home["address"], f"the furnace is now at address {again['address']}")
+    answers(panel, again["position"], place)
+
+
+def noise_costs_no_board(panel, boards, homes):
+    """Noise between frames costs no answer, noise inside one costs that answer, and nobody is dropped."""
+    first = panel.place()
+    for i in range(12):
+        name = list(MACS)[i % 3]
+        position = homes[name]["position"]
+        where = "before" if i % 2 else "after"
+        place = answers(panel, position, panel.place())
+        boards.order(f"noise {name} {where} {5 + 20 * i}")
+        place = panel.event("noise", place)[0]
+        answers(panel, position, place)
+    check(not panel.events("quiet", first, exchange="offer"), "noise beside a frame cost it")
+    for i in range(6):
+        name = list(MACS)[i % 3]
+        place = panel.place()
+        boards.order(f"noise {name} inside {1 + i}")
+        place, refused = panel.event("refused", place, call="frame")
+        check(1 <= refused["number"] <= 4, f"a damaged frame is refused {refused['number']}")
+        place = panel.event("quiet", place, position=homes[name]["position"], misses=1)[0]
+        answers(panel, homes[name]["position"], place)
+    for _ in range(10):
+        boards.order("noise 300")
+    place = panel.place()
+    for name in MACS:
+        answers(panel, homes[name]["position"], place)
+    check(not panel.events("dropped", first), "noise cost a board its place")
+
+
+def power_goes_and_comes(panel, boards, homes):
+    """Without power all are dropped; with it all come back. One comes back as something else, to its own place."""
+    place = panel.place()
+    boards.order("power off all")
+    for home in homes.values():
+        panel.event("dropped", place, mac=home["mac"])
+    boards.order("power on all")
+    homes = joined(panel, place)
+    place = panel.place()
+    boards.order("jumper furnace 3")
+    _, again = panel.event("joined", place, 30, mac=MACS["furnace"])
+    check((again["type"], again["position"]) == (3, homes["furnace"]["position"]), f"the furnace is now {again}")
+
+
+def device_comes_back(panel, boards):
+    """The boards' process is killed, and with it the line; both are there again, and so are all boards."""
+    place = panel.place()
+    boards.kill()
+    panel.event("lost", place)
+    boards = Boards(out, link, FASTER)
+    panel.event("opened", place)
+    homes = joined(panel, place)
+    place = panel.place()
+    for home in homes.values():
+        answers(panel, home["position"], place)
+    return boards
+
+
+def panel_comes_back(panel):
+    """The panel's process is killed; started again it lists all boards, which have kept their addresses."""
+    panel.kill()
+    panel = Panel(out, link, FASTER, *SILENCE)
+    homes = joined(panel)
+    place = panel.place()
+    for home in homes.values():
+        answers(panel, home["position"], place)
+    return panel
+
+
+def end_is_clean(panel):
+    check(panel.stop() == 0, "the panel did not end with 0 when it was stopped")
+    counts = panel.said[-1]
+    check(counts["event"] == "stopped", f"the last line is {counts}")
+    for name, events in ("joins", "joined"), ("drops", "dropped"):
+        check(counts[name] == len(panel.events(events)), f"{name} are {counts[name]}")
+    check(counts["offers"] == len(panel.events("sent", exchange="offer")), "offers are counted wrongly")
+
+
+def capture_has_what_was_said(capture, events):
+    """What was captured is what these events, from the first on, say went over the line: frames, answers, ACKs."""
+    said = "".join(event.get("frame", "") + event.get("ack", "") for event in events)
+    with open(capture, "rb") as file:
+        captured = file.read().hex().upper()
+    check(len(said) > 10000 and captured.startswith(said), "the capture is not what the events say")
+
+
+def capture_lists(capture):
+    """What was captured is frames to framelist, and the first is Node Discovery: to all, from the panel, type 121."""
+    with open(capture, "rb") as file:
+        listed = subprocess.run(command_of(out, "framelist"), stdin=file, capture_output=True, text=True, check=True).stdout.splitlines()
+    check(listed[0] == "0 0 255 121 1" and len(listed) > 50, f"framelist lists {len(listed)} frames, first {listed[:1]}")
+
+
+def full_disk_stops_only_the_capture():
+    panel = Panel(out, link, FASTER, "--capture", "/dev/full", *SILENCE)
+    place, _ = panel.event("capture")
+    panel.event("joined", place)
+    check(panel.stop() == 0, "the panel did not end well after a full disk")
+    check(len(panel.events("capture")) == 1, "the end of the capture is told more than once")
+
+
+def read_until(reader, last, seconds=20):
+    """Reads until this has come, or the end."""
+    text, end = "", time.monotonic() + seconds
+    while not (last and last in text) and select.select([reader], [], [], max(0, end - time.monotonic()))[0]:
+        try:
+            piece = os.read(reader, 65536).decode()
+        except OSError:  # what a terminal gives when its other end is closed
+            piece = ""
+        if not piece:
+            break
+        text += piece
+    return text
+
+
+def shown(boards, is_screen, last):
+    """What the panel shows without --json, on a terminal of 30 rows or not on one, until it has shown this and is stopped."""
+    boards.order("power off all")
+    boards.order("power on all")
+    reader, writer = os.openpty() if is_screen else os.pipe()
+    if is_screen:
+        fcntl.ioctl(writer, termios.TIOCSWINSZ, struct.pack("HHHH", 30, 90, 0, 0))
+    panel = subprocess.Popen(command_of(out, "panel") + [link, "--faster", str(FASTER), *SILENCE], stdin=subprocess.DEVNULL, stdout=writer)
+    os.close(writer)
+    try:
+        text = read_until(reader, last)
+        panel.terminate()
+        text += read_until(reader, None)
+        check(panel.wait(20) == 0 and last in text, f"the panel did not show '{last}': {text[-1000:]}")
+    finally:
+        panel.kill()
+        os.close(reader)
+    return text
+
+
+def shows_what_happens(boards):
+    """A screen with a row for each board, and the terminal as it was afterwards; not on a terminal, a line for each event."""
+    screen = shown(boards, True, "listed: heat pump")
+    check(screen.startswith("\x1b[?1049h") and "\x1b[?1049l" in screen, "the terminal's other screen is not taken and left")
+    check("Nadrelgos on " + link in screen and "heat pump (5)" in screen, "the screen has no head or no row")
+    lines = [line.split(None, 2) for line in shown(boards, False, "listed: heat pump").splitlines()]
+    check({"setup", "sent", "taken", "joined"} <= {line[1] for line in lines}, "there is not a line for each event")
+    check("\x1b" not in str(lines), "lines move the cursor")
+
+
+def flood(master, is_over):
+    """Writes anything to the line, and reads what comes from it, until it is over."""
+    chance = random.Random(485)
+    os.set_blocking(master, False)
+    while not is_over.is_set():
+        try:
+            os.write(master, chance.randbytes(chance.choice([1, 12, 250, 1000])))
+            os.read(master, 65536)
+        except BlockingIOError:
+            time.sleep(0.001)
+        if chance.random() < 0.1:
+            time.sleep(0.02)
+
+
+def any_bytes(seconds=2):
+    """Anything on the line, for a while: the panel goes on all the time, and ends well in the midst of it."""
+    master, slave = os.openpty()
+    is_over = threading.Event()
+    writer = threading.Thread(target=flood, args=(master, is_over))
+    panel = Panel(out, os.ttyname(slave), 100, *SILENCE)
+    writer.start()
+    try:
+        time.sleep(seconds)
+        for _ in range(3):
+            panel.event("sent", panel.place(), exchange="search")
+        check(panel.events("refused", call="frame"), "nothing on the line was refused")
+        check(panel.stop() == 0, "the panel did not end well in noise")
+    finally:
+        is_over.set()
+        writer.join()
+    os.close(slave)
+    os.close(master)
+
+
+def wrong_words():
+    """What cannot be done is said in words, with the exit status that the help states."""
+    command = command_of(out, "panel")
+    plain = os.path.join(out, "panel.words")
+    for words, status, said in (["--help"], 0, ""), (["--bogus"], 2, "is no option"), (["--baud", "9601", link], 2, "cannot be 9601"), \
+            (["--look"], 2, "needs a value"), (["--json=1", link], 2, "takes no value"), ([link, link], 2, "is a device already"), \
+            ([os.path.join(out, "none")], 3, "No such file"), ([plain], 3, "no serial device"), \
+            ([link, "--capture", os.path.join(out, "none", "file")], 4, "No such file"), ([link, "--rs485"], 3, "RS-485"):
+        done = subprocess.run(command + words, capture_output=True, text=True, timeout=20)
+        check(done.returncode == status and said in done.stderr, f"{words} ends with {done.returncode}: {done.stderr}")
+
+
+def main():
+    began = time.monotonic()
+    capture = os.path.join(out, "captured.bin")
+    boards = Boards(out, link, FASTER, "--empty", "--seed", "485")
+    wrong_words()
+    panel = Panel(out, link, FASTER, "--capture", capture, *SILENCE)
+    homes = all_are_found(panel, boards)
+    heat_is_carried(panel, boards, homes)
+    single_misses_drop_nobody(panel, boards, homes)
+    unplugged_is_dropped(panel, boards, homes)
+    before_noise = panel.since(0)
+    noise_costs_no_board(panel, boards, homes)
+    power_goes_and_comes(panel, boards, homes)
+    boards = device_comes_back(panel, boards)
+    panel = panel_comes_back(panel)
+    end_is_clean(panel)
+    capture_has_what_was_said(capture, before_noise)
+    capture_lists(capture)
+    boards.order("power off all")
+    boards.order("power on all")
+    full_disk_stops_only_the_capture()
+    shows_what_happens(boards)
+    boards.stop()
+    any_bytes()
+    print(f"line: all as it must be, {time.monotonic() - began:.0f} s")
+
+
+try:
+    main()
+except Failed as failed:
+    print(f"line: {failed}", file=sys.stderr)
+    sys.exit(1)
+finally:
+    Program.kill_all()
