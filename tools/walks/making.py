@@ -5,7 +5,7 @@
         put_state(coordinator, after);
         let kept = change::keeps(change);
         keep(coordinator, kept, received);
-        let from = before(change.position);
+        let from = below(change.position);
         amend(nodes, from, change.position, change.edit);
         let to = all_if(change.owe, nodes.len());
         amend(nodes, 0, to, Edit::Owed);
@@ -14,7 +14,7 @@
 The coordinator is lent again to `put_state` and given to `keep` for good, the records are lent again to the first `amend` and given to the second.
 
 h is the coordinator at entry, h₁ with its state put, k what it ends as; ys are the records at entry, zs with one of them edited, us what they end as. s is the
-state that was read, s₁ the one after it, x is the change, bs are the bytes received, b is whether they are kept, i and m what `before` and `all_if` give. `coordinator-made` and the law
+state that was read, s₁ the one after it, x is the change, bs are the bytes received, b is whether they are kept, i and m what `below` and `all_if` give. `coordinator-made` and the law
 `change-made` lead from what the calls ensure to what `make` ensures."""
 from borrows import SharedSlice, marked
 from calls import Callee
@@ -52,10 +52,10 @@ class Make(Stages):
         self.received = SharedSlice('received', marked('₂'), None, None, U8, 'bs', 'room₂')
         self.after, self.keeps = Callee('change::after', 'after′', 'After', 'after'), Callee('change::keeps', 'keeps′', 'Keeps', 'keeps')
         self.put_state, self.keep = Callee('place::put_state', 'put′', 'Put', 'put', stem='put'), Callee('place::keep', 'keep′', 'Keep', 'kept', stem='kept')
-        self.before, self.amend = Callee('place::before', 'before′', 'Before', 'before'), Callee('place::amend', 'amend′', 'Amend', 'amend')
+        self.below, self.amend = Callee('place::below', 'below′', 'Lower', 'below'), Callee('place::amend', 'amend′', 'Amend', 'amend')
         self.all_if = Callee('place::all_if', 'all′', 'All', 'all', stem='all')
         super().__init__('make', [self.coordinator, self.nodes, self.state, self.change, self.received],
-                         [self.after, self.put_state, self.keeps, self.keep, self.before, self.amend, self.all_if])
+                         [self.after, self.put_state, self.keeps, self.keep, self.below, self.amend, self.all_if])
 
     def locals(self):
         """those of the code, then what passes on the arguments of each call"""
@@ -120,9 +120,9 @@ class Make(Stages):
                    ('ek', 'k ≡ changedFrom s x bs h', '(coordinator-made s s₁ x b bs h h₁ (ws .0) es e₁ eb e₂)'))
 
     def amend_one(self, w):
-        """let from = before(change.position); amend(nodes, from, change.position, change.edit)"""
+        """let from = below(change.position); amend(nodes, from, change.position, change.edit)"""
         w.say('-- one record is edited: the records are lent again')
-        self.call(w, self.before, Arguments.of_call(self.of('position')), ('i', USIZE, 'vi', 'isi'), 'i ≡ x .position - 1', 'ei', 'from', 'ws₁')
+        self.call(w, self.below, Arguments.of_call(self.of('position')), ('i', USIZE, 'vi', 'isi'), 'i ≡ x .position - 1', 'ei', 'from', 'ws₁')
         self.stage(w, ('i', 'ℕ'), ('vi', 'Val'), ('isi', 'Is usize i (vi ∷ [])'), ('ei', 'i ≡ x .position - 1'))
         self.nodes.reborrow(w, 'amend')
         nodes, begin = LentSliceAgain(self.nodes, ('ν', 'δ'), 'amend.slice', 'zs'), Value('from', USIZE, 'i', 'vi', 'isi')

@@ -11,7 +11,6 @@ use Rattle.change.proofs.edited.Reads as edited
 use Rattle.change.proofs.changing.Reads as changing
 use Rattle.change.proofs.refusing.Reads as refusing
 use Rattle.change.proofs.resting.Reads as resting
-use Rattle.change.proofs.kept_bytes.Reads as kept-bytes
 use Rattle.change.proofs.keep.Reads as keep
 use Rattle.change.proofs.after.Reads as after
 use Rattle.change.proofs.keeps.Reads as keeps
@@ -37,9 +36,6 @@ unique-keeps a s t r q p p′ = p ∙ sym p′
 
 pub unique-ending : (a s t : _) (r q : Change) → ending.Post tt a r s → ending.Post tt a q t → r ≡ q
 unique-ending a s t r q p p′ = p ∙ sym p′
-
-pub unique-kept-bytes : (κs a s t : _) (r q : List ℕ) → kept-bytes.Post κs a r s → kept-bytes.Post κs a q t → r ≡ q
-unique-kept-bytes κs a s t r q p p′ = p ∙ sym p′
 
 -- what is passed to keep a payload, and the same at its exit
 abbrev Keeps : Type 0

@@ -233,7 +233,7 @@ fn padded(payload: &[u8]) -> [u8; 240]
 }
 
 // The payload to keep of bytes received.
-pub fn kept_bytes(received: &[u8]) -> [u8; 240]
+fn kept_bytes(received: &[u8]) -> [u8; 240]
     ensures { λ r. ⌜ r ≡ keptBytes (keepable (now (received .entry))) ⌝ }
 {
     let count = received.len();

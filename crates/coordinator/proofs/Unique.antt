@@ -4,11 +4,9 @@ use mathlib.Core.List.{List}
 use Rattle.board.specs.declared.Node.{Node}
 use Rattle.board.specs.declared.Table.{Table}
 use Rattle.coordinator.specs.declared.Phase.{Phase}
-use Rattle.coordinator.specs.declared.Stand.{Stand}
 use Rattle.coordinator.specs.declared.State.{State}
 use Rattle.coordinator.specs.declared.Coordinator.{Coordinator}
 use Rattle.coordinator.proofs.phase_of.Reads as phase-of
-use Rattle.coordinator.proofs.stand_of.Reads as stand-of
 use Rattle.coordinator.proofs.fresh.Reads as fresh
 use Rattle.coordinator.proofs.blank_table.Reads as blank-table
 use Rattle.coordinator.proofs.with_phase.Reads as with-phase
@@ -21,9 +19,6 @@ use Rattle.coordinator.proofs.ended.Reads as ended
 
 pub unique-phase-of : (a s t : _) (r q : Phase) → phase-of.Post tt a r s → phase-of.Post tt a q t → r ≡ q
 unique-phase-of a s t r q p p′ = p ∙ sym p′
-
-pub unique-stand-of : (a s t : _) (r q : Stand) → stand-of.Post tt a r s → stand-of.Post tt a q t → r ≡ q
-unique-stand-of a s t r q p p′ = p ∙ sym p′
 
 pub unique-fresh : (a s t : _) (r q : Coordinator) → fresh.Post tt a r s → fresh.Post tt a q t → r ≡ q
 unique-fresh a s t r q p p′ = p ∙ sym p′

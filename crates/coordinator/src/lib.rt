@@ -188,7 +188,7 @@ fn stage_of(part: Part) -> u8
 }
 
 // The numbers of a phase.
-pub fn stand_of(phase: Phase) -> Stand
+fn stand_of(phase: Phase) -> Stand
     ensures { λ r. ⌜ r ≡ standOf phase ⌝ }
 {
     match phase {

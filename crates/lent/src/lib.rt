@@ -25,16 +25,6 @@ pub struct Amendment {
     pub answer: u64,
 }
 
-// The index of a position, and 0 for position 0, which names nobody.
-fn index_at(position: usize) -> usize
-    ensures { λ r. ⌜ r ≡ position - 1 ⌝ }
-{
-    if 0 < position {
-        return position - 1;
-    }
-    0
-}
-
 // The record at a position of `count` records edited: none of them where they are not forty, or where the position names nobody.
 fn amending(count: usize, position: usize, edit: Edit) -> Amendment
     ensures { λ r. ⌜ r ≡ amending count position edit ⌝ }
@@ -48,7 +38,7 @@ fn amending(count: usize, position: usize, edit: Edit) -> Amendment
         };
     }
     Amendment {
-        from: index_at(position),
+        from: place::below(position),
         to: position,
         edit: edit,
         answer: plainly(Answer::Rest),

@@ -18,7 +18,7 @@ ghost use Rattle.change.specs.Change.{keptBytes, keepable, changedFrom, amended
 ghost use Rattle.place.specs.Place.{placeOf, editedBetween};
 
 // Lent records read where they stand, at most forty of them: each is noted, and those that are listed go into the columns.
-pub fn digest(
+fn digest(
     k: usize,
     nodes: &[Node],
     kinds: &mut [u8; 40],
@@ -75,7 +75,7 @@ pub fn amend(nodes: &mut [Node], from: usize, to: usize, edit: Edit)
 }
 
 // The state of a lent coordinator, read where it stands: its payload is not copied.
-pub fn state_of(coordinator: &Coordinator) -> State
+fn state_of(coordinator: &Coordinator) -> State
     ensures { λ r. ⌜ r ≡ stateOf (now (coordinator .entry)) ⌝ }
 {
     let head = Head {
@@ -97,7 +97,7 @@ pub fn state_of(coordinator: &Coordinator) -> State
 }
 
 // A state put into a lent coordinator, where it stands: the setup and the payload that is kept stay as they are.
-pub fn put_state(coordinator: &mut Coordinator, state: State)
+fn put_state(coordinator: &mut Coordinator, state: State)
     ensures { λ _. ⌜ now (coordinator .exit) ≡ composed (now (coordinator .entry) .setup) state (now (coordinator .entry) .kept .payload) ⌝ }
 {
     coordinator.last = state.last;
@@ -135,14 +135,14 @@ pub fn look(
 }
 
 // The payload received is kept in a lent coordinator, where it stands, if it is to be kept.
-pub fn keep(coordinator: &mut Coordinator, keep: bool, received: &[u8])
+fn keep(coordinator: &mut Coordinator, keep: bool, received: &[u8])
     ensures { λ _. ⌜ now (coordinator .exit) ≡ composed (now (coordinator .entry) .setup) (stateOf (now (coordinator .entry))) (choose keep (keptBytes (keepable (now (received .entry)))) (now (coordinator .entry) .kept .payload)) ⌝ }
 {
     change::keep(keep, received, &mut coordinator.kept.payload);
 }
 
-// The index before a position; 0 where there is none.
-fn before(position: usize) -> usize
+// Where the record of a position stands among the records: the number below it; 0 for position 0, which names nobody.
+pub fn below(position: usize) -> usize
     ensures { λ r. ⌜ r ≡ position - 1 ⌝ }
 {
     if 0 < position {
@@ -175,7 +175,7 @@ pub fn make(
     put_state(coordinator, after);
     let kept = change::keeps(change);
     keep(coordinator, kept, received);
-    let from = before(change.position);
+    let from = below(change.position);
     amend(nodes, from, change.position, change.edit);
     let to = all_if(change.owe, nodes.len());
     amend(nodes, 0, to, Edit::Owed);

@@ -40,7 +40,7 @@ fn deciding(
 
 // What a step decides on, by what was seen of coordinator and records: `node` is the record of the board that the stand
 // names, `payload` the one that is kept. Records that are not fit are refused.
-pub fn decide(
+fn decide(
     seen: Seen,
     node: Node,
     payload: &[u8],

@@ -12,14 +12,14 @@ plainly-requires c κs = search needs
 returns : tie.Need-returns
 returns c = choose-no _ _ _ _ (ne-eqb _ 40 (c .before .if1 .taken)) (rw (c .plainly .ensures) refl)
 
-index-at-requires : tie.Need-index-at-requires
-index-at-requires c κs = search needs
+below-requires : tie.Need-below-requires
+below-requires c κs = search needs
 
 plainly-requires-2 : tie.Need-plainly-requires-2
 plainly-requires-2 c κs = search needs
 
 returns-2 : tie.Need-returns-2
-returns-2 c = choose-yes _ _ _ _ (eq-eqb _ 40 (c .before .before .if1 .left)) (rw (c .before .index-at .ensures, c .plainly2 .ensures) refl)
+returns-2 c = choose-yes _ _ _ _ (eq-eqb _ 40 (c .before .before .if1 .left)) (rw (c .before .below .ensures, c .plainly2 .ensures) refl)
 
 pub amending-spec : {M : Type 1} → statement M
 amending-spec =
@@ -27,6 +27,6 @@ amending-spec =
     (tie.spec
     plainly-requires
     returns
-    index-at-requires
+    below-requires
     plainly-requires-2
     returns-2)

@@ -38,10 +38,10 @@ use Rattle.place.proofs.keep as keep′
 use Rattle.place.proofs.keep.Symbol as kept-def
 use Rattle.place.proofs.keep.Symbol.{name as #place·keep}
 use Rattle.place.proofs.keep.Met as kept-thm
-use Rattle.place.proofs.before as before′
-use Rattle.place.proofs.before.Symbol as before-def
-use Rattle.place.proofs.before.Symbol.{name as #place·before}
-use Rattle.place.proofs.before.Met as before-thm
+use Rattle.place.proofs.below as below′
+use Rattle.place.proofs.below.Symbol as below-def
+use Rattle.place.proofs.below.Symbol.{name as #place·below}
+use Rattle.place.proofs.below.Met as below-thm
 use Rattle.place.proofs.amend as amend′
 use Rattle.place.proofs.amend.Symbol as amend-def
 use Rattle.place.proofs.amend.Symbol.{name as #place·amend}
@@ -93,8 +93,8 @@ module _ {M : Type 1} (𝓤 : URA M) (H : Heap 𝓤) (A : Atoms 𝓤) (at-mem : 
   abbrev Keep : Contract 𝓤
   Keep = tripleOf 𝓤 H A keep′.signature (keep′.spec 𝓤 H A at-mem run)
 
-  abbrev Before : Contract 𝓤
-  Before = tripleOf 𝓤 H A before′.signature (before′.spec 𝓤 H A at-mem run)
+  abbrev Lower : Contract 𝓤
+  Lower = tripleOf 𝓤 H A below′.signature (below′.spec 𝓤 H A at-mem run)
 
   abbrev Amend : Contract 𝓤
   Amend = tripleOf 𝓤 H A amend′.signature (amend′.spec 𝓤 H A at-mem run)
@@ -137,7 +137,7 @@ module _ {M : Type 1} (𝓤 : URA M) (H : Heap 𝓤) (A : Atoms 𝓤) (W : Given
       move ! (1 ∷ 0 ∷ []) $
       done !
 
-  module _ (𝓣 : Tables 𝓤 H) (fm : FmC 𝓤 H (W .laws) (𝓣 .C)) (known-after : Triple 𝓤 (𝓣 .C #change·after) (After 𝓤 H A at-mem run)) (known-put : Triple 𝓤 (𝓣 .C #place·put-state) (Put 𝓤 H A at-mem run)) (known-keeps : Triple 𝓤 (𝓣 .C #change·keeps) (Keeps 𝓤 H A at-mem run)) (known-kept : Triple 𝓤 (𝓣 .C #place·keep) (Keep 𝓤 H A at-mem run)) (known-before : Triple 𝓤 (𝓣 .C #place·before) (Before 𝓤 H A at-mem run)) (known-amend : Triple 𝓤 (𝓣 .C #place·amend) (Amend 𝓤 H A at-mem run)) (known-all : Triple 𝓤 (𝓣 .C #place·all-if) (All 𝓤 H A at-mem run)) where
+  module _ (𝓣 : Tables 𝓤 H) (fm : FmC 𝓤 H (W .laws) (𝓣 .C)) (known-after : Triple 𝓤 (𝓣 .C #change·after) (After 𝓤 H A at-mem run)) (known-put : Triple 𝓤 (𝓣 .C #place·put-state) (Put 𝓤 H A at-mem run)) (known-keeps : Triple 𝓤 (𝓣 .C #change·keeps) (Keeps 𝓤 H A at-mem run)) (known-kept : Triple 𝓤 (𝓣 .C #place·keep) (Keep 𝓤 H A at-mem run)) (known-below : Triple 𝓤 (𝓣 .C #place·below) (Lower 𝓤 H A at-mem run)) (known-amend : Triple 𝓤 (𝓣 .C #place·amend) (Amend 𝓤 H A at-mem run)) (known-all : Triple 𝓤 (𝓣 .C #place·all-if) (All 𝓤 H A at-mem run)) where
     abbrev C : Calls 𝓤 H
     C = 𝓣 .C
 
@@ -242,10 +242,10 @@ module _ {M : Type 1} (𝓤 : URA M) (H : Heap 𝓤) (A : Atoms 𝓤) (W : Given
           owned ! usize (Is usize) (uint-makes 𝓤 H A W w64) (x .position) _ (to-position x _ isx) $
           fjoin ! $
           nothing ! $
-          use2 W (raw (Before 𝓤 H A at-mem run .pre ((tt, tt, tt, (x .position, tt), (vint w64 (x .position) ∷ [], tt)), tt))) (qed W (‵ ftrue ∷ ‵ (owns (usize ∷ []) (x .position, tt) (vint w64 (x .position) ∷ [], tt)) ∷ []) ∵ join ! $ frame ! $ done !) $
-          calls-at ! fm (Before 𝓤 H A at-mem run) known-before ((tt, tt, tt, (x .position, tt), (vint w64 (x .position) ∷ [], tt)), tt) (and-then ! (load ! (from ! (fld ! refl (stop !))) (look-in ! 35 (sub ! 1 refl (whole !)))) (no-more !)) (λ vi.
-          use1 W (later (some (λ (i : ℕ). (‵ ftrue ⊛ ‵ (usize .own i (vi ∷ []))) ⊛ raw (ensured 𝓤 H A before′.ended (before′.clauses 𝓤 H A at-mem run) tt (x .position, tt) tt i)))) (id⊢ 𝓤 _) $ await ! tt $ pick ! (λ i. split ! $
-          move ! (1 ∷ []) $ use1 W (some (λ (ws₁ : Unit {0} × Unit {0}). ‵ (lasts before′.ended tt (x .position, tt) ws₁) ⊛ raw (fact 𝓤 (i ≡ x .position - 1)))) (id⊢ 𝓤 _) $ pick ! (λ ws₁. split ! $
+          use2 W (raw (Lower 𝓤 H A at-mem run .pre ((tt, tt, tt, (x .position, tt), (vint w64 (x .position) ∷ [], tt)), tt))) (qed W (‵ ftrue ∷ ‵ (owns (usize ∷ []) (x .position, tt) (vint w64 (x .position) ∷ [], tt)) ∷ []) ∵ join ! $ frame ! $ done !) $
+          calls-at ! fm (Lower 𝓤 H A at-mem run) known-below ((tt, tt, tt, (x .position, tt), (vint w64 (x .position) ∷ [], tt)), tt) (and-then ! (load ! (from ! (fld ! refl (stop !))) (look-in ! 35 (sub ! 1 refl (whole !)))) (no-more !)) (λ vi.
+          use1 W (later (some (λ (i : ℕ). (‵ ftrue ⊛ ‵ (usize .own i (vi ∷ []))) ⊛ raw (ensured 𝓤 H A below′.ended (below′.clauses 𝓤 H A at-mem run) tt (x .position, tt) tt i)))) (id⊢ 𝓤 _) $ await ! tt $ pick ! (λ i. split ! $
+          move ! (1 ∷ []) $ use1 W (some (λ (ws₁ : Unit {0} × Unit {0}). ‵ (lasts below′.ended tt (x .position, tt) ws₁) ⊛ raw (fact 𝓤 (i ≡ x .position - 1)))) (id⊢ 𝓤 _) $ pick ! (λ ws₁. split ! $
           move ! (1 ∷ []) $ heard ! (i ≡ x .position - 1) (λ ei.
           drop ! $
           split ! $
@@ -364,18 +364,18 @@ module _ {M : Type 1} (𝓤 : URA M) (H : Heap 𝓤) (A : Atoms 𝓤) (W : Given
         stage-2 l₀ l₁ l₂ l₃ l₄ l₅ l₆ l₇ l₈ l₉ l₁₀ l₁₁ l₁₂ l₁₃ l₁₄ l₁₅ l₁₆ l₁₇ l₁₈ s₁ vs₁ iss₁ es))))))))))))))))))))))))
 
 module _ {M : Type 1} (𝓤 : URA M) (H : Heap 𝓤) (A : Atoms 𝓤) (W : Given 𝓤 H A) (at-mem : Memory → SProp 𝓤) (run : Routine → Fun 𝓤) where
-  walks : (𝓣 : Tables 𝓤 H) → FmC 𝓤 H (W .laws) (𝓣 .C) → Triple 𝓤 (𝓣 .C #change·after) (After 𝓤 H A at-mem run) → Triple 𝓤 (𝓣 .C #place·put-state) (Put 𝓤 H A at-mem run) → Triple 𝓤 (𝓣 .C #change·keeps) (Keeps 𝓤 H A at-mem run) → Triple 𝓤 (𝓣 .C #place·keep) (Keep 𝓤 H A at-mem run) → Triple 𝓤 (𝓣 .C #place·before) (Before 𝓤 H A at-mem run) → Triple 𝓤 (𝓣 .C #place·amend) (Amend 𝓤 H A at-mem run) → Triple 𝓤 (𝓣 .C #place·all-if) (All 𝓤 H A at-mem run)
+  walks : (𝓣 : Tables 𝓤 H) → FmC 𝓤 H (W .laws) (𝓣 .C) → Triple 𝓤 (𝓣 .C #change·after) (After 𝓤 H A at-mem run) → Triple 𝓤 (𝓣 .C #place·put-state) (Put 𝓤 H A at-mem run) → Triple 𝓤 (𝓣 .C #change·keeps) (Keeps 𝓤 H A at-mem run) → Triple 𝓤 (𝓣 .C #place·keep) (Keep 𝓤 H A at-mem run) → Triple 𝓤 (𝓣 .C #place·below) (Lower 𝓤 H A at-mem run) → Triple 𝓤 (𝓣 .C #place·amend) (Amend 𝓤 H A at-mem run) → Triple 𝓤 (𝓣 .C #place·all-if) (All 𝓤 H A at-mem run)
       → Walks 𝓤 H A f.ended stayed (WpFn 𝓤 H (𝓣 .C) (𝓣 .Λ) code.function) (f.clauses 𝓤 H A at-mem run)
-  walks 𝓣 fm known-after known-put known-keeps known-kept known-before known-amend known-all = walked 𝓤 H A f.ended stayed (f.clauses 𝓤 H A at-mem run) (WpFn 𝓤 H (𝓣 .C) (𝓣 .Λ) code.function) (λ κs. (ptr-vals, (slice-vals, (LL.vals Sta.the-type Sta′.the-laws, (LL.vals Ch.the-type Ch′.the-laws, (slice-vals, tt)))))) (λ κs. (mut-tells (named 0) (κs .0) K.the-row, (mut-slice-tells (named 1) (κs .1 .0) T.the-row, (LL.tells Sta.the-type Sta′.the-laws, (LL.tells Ch.the-type Ch′.the-laws, (shr-slice-tells (named 2) (κs .1 .1 .0) u8, tt))))))
-      (λ κs qs bounds a g are. via 𝓤 _ (fst∗ 𝓤 _ (emp 𝓤)) (walk 𝓤 H A W at-mem run (κs .0) (κs .1 .0) (κs .1 .1 .0) (qs .0) (qs .1 .0) (qs .1 .1 .0) (a .0 .ptr .0) (a .0 .ptr .1) (a .0 .name) (a .0 .now) (a .1 .0 .ptr .0) (a .1 .0 .ptr .1) (a .1 .0 .name) (a .1 .0 .now) (a .1 .1 .0) (a .1 .1 .1 .0) (a .1 .1 .1 .1 .0 .ptr .0) (a .1 .1 .1 .1 .0 .ptr .1) (a .1 .1 .1 .1 .0 .name) (a .1 .1 .1 .1 .0 .now) (are .1 .0 .0 .1) (are .1 .1 .0) (are .1 .1 .1 .0) (are .1 .1 .1 .1 .0 .0 .1) 𝓣 fm known-after known-put known-keeps known-kept known-before known-amend known-all))
+  walks 𝓣 fm known-after known-put known-keeps known-kept known-below known-amend known-all = walked 𝓤 H A f.ended stayed (f.clauses 𝓤 H A at-mem run) (WpFn 𝓤 H (𝓣 .C) (𝓣 .Λ) code.function) (λ κs. (ptr-vals, (slice-vals, (LL.vals Sta.the-type Sta′.the-laws, (LL.vals Ch.the-type Ch′.the-laws, (slice-vals, tt)))))) (λ κs. (mut-tells (named 0) (κs .0) K.the-row, (mut-slice-tells (named 1) (κs .1 .0) T.the-row, (LL.tells Sta.the-type Sta′.the-laws, (LL.tells Ch.the-type Ch′.the-laws, (shr-slice-tells (named 2) (κs .1 .1 .0) u8, tt))))))
+      (λ κs qs bounds a g are. via 𝓤 _ (fst∗ 𝓤 _ (emp 𝓤)) (walk 𝓤 H A W at-mem run (κs .0) (κs .1 .0) (κs .1 .1 .0) (qs .0) (qs .1 .0) (qs .1 .1 .0) (a .0 .ptr .0) (a .0 .ptr .1) (a .0 .name) (a .0 .now) (a .1 .0 .ptr .0) (a .1 .0 .ptr .1) (a .1 .0 .name) (a .1 .0 .now) (a .1 .1 .0) (a .1 .1 .1 .0) (a .1 .1 .1 .1 .0 .ptr .0) (a .1 .1 .1 .1 .0 .ptr .1) (a .1 .1 .1 .1 .0 .name) (a .1 .1 .1 .1 .0 .now) (are .1 .0 .0 .1) (are .1 .1 .0) (are .1 .1 .1 .0) (are .1 .1 .1 .1 .0 .0 .1) 𝓣 fm known-after known-put known-keeps known-kept known-below known-amend known-all))
 
   goes : AllGo 𝓤 H A W 3 (f.signature .params) (f.ended .kept) stayed
   goes = (goes-gave-ref 𝓤 H A W 3 0 tt (plain (λ _. K.the-row)), (goes-gave-slice 𝓤 H A W 3 1 tt (plain (λ _. T.the-row)), (goes-none 𝓤 H A W 3 (λ _. Sta.the-row) yes (λ κs x f. refl), (goes-none 𝓤 H A W 3 (λ _. Ch.the-row) yes (λ κs x f. refl), (goes-none-slice 𝓤 H A W 3 (2 ∷ []) tt (plain (λ _. u8)) yes, tt)))))
 
-meets : {M : Type 1} (𝓤 : URA M) (H : Heap 𝓤) (A : Atoms 𝓤) (W : Given 𝓤 H A) (at-mem : Memory → SProp 𝓤) (run : Routine → Fun 𝓤) (𝓣 : Tables 𝓤 H) → Triple 𝓤 (𝓣 .C #change·after) (After 𝓤 H A at-mem run) → Triple 𝓤 (𝓣 .C #place·put-state) (Put 𝓤 H A at-mem run) → Triple 𝓤 (𝓣 .C #change·keeps) (Keeps 𝓤 H A at-mem run) → Triple 𝓤 (𝓣 .C #place·keep) (Keep 𝓤 H A at-mem run) → Triple 𝓤 (𝓣 .C #place·before) (Before 𝓤 H A at-mem run) → Triple 𝓤 (𝓣 .C #place·amend) (Amend 𝓤 H A at-mem run) → Triple 𝓤 (𝓣 .C #place·all-if) (All 𝓤 H A at-mem run)
+meets : {M : Type 1} (𝓤 : URA M) (H : Heap 𝓤) (A : Atoms 𝓤) (W : Given 𝓤 H A) (at-mem : Memory → SProp 𝓤) (run : Routine → Fun 𝓤) (𝓣 : Tables 𝓤 H) → Triple 𝓤 (𝓣 .C #change·after) (After 𝓤 H A at-mem run) → Triple 𝓤 (𝓣 .C #place·put-state) (Put 𝓤 H A at-mem run) → Triple 𝓤 (𝓣 .C #change·keeps) (Keeps 𝓤 H A at-mem run) → Triple 𝓤 (𝓣 .C #place·keep) (Keep 𝓤 H A at-mem run) → Triple 𝓤 (𝓣 .C #place·below) (Lower 𝓤 H A at-mem run) → Triple 𝓤 (𝓣 .C #place·amend) (Amend 𝓤 H A at-mem run) → Triple 𝓤 (𝓣 .C #place·all-if) (All 𝓤 H A at-mem run)
     → Meets 𝓤 H A f.signature (WpFn 𝓤 H (𝓣 .C) (𝓣 .Λ) code.function) (f.spec 𝓤 H A at-mem run)
-meets 𝓤 H A W at-mem run 𝓣 known-after known-put known-keeps known-kept known-before known-amend known-all = walk-meets 𝓤 H A f.ended stayed W (goes 𝓤 H A W at-mem run) (f.clauses 𝓤 H A at-mem run) (WpFn 𝓤 H (𝓣 .C) (𝓣 .Λ) code.function) (WpFn-mono 𝓤 H (W .laws) 𝓣 code.function)
-    (walks 𝓤 H A W at-mem run 𝓣 (fmOf 𝓤 H (W .laws) 𝓣) known-after known-put known-keeps known-kept known-before known-amend known-all)
+meets 𝓤 H A W at-mem run 𝓣 known-after known-put known-keeps known-kept known-below known-amend known-all = walk-meets 𝓤 H A f.ended stayed W (goes 𝓤 H A W at-mem run) (f.clauses 𝓤 H A at-mem run) (WpFn 𝓤 H (𝓣 .C) (𝓣 .Λ) code.function) (WpFn-mono 𝓤 H (W .laws) 𝓣 code.function)
+    (walks 𝓤 H A W at-mem run 𝓣 (fmOf 𝓤 H (W .laws) 𝓣) known-after known-put known-keeps known-kept known-below known-amend known-all)
 
 pub make-spec : {M : Type 1} → stated.statement M
 unfolding code.routine tablesOf
@@ -387,6 +387,6 @@ make-spec 𝓤 H 𝓜 𝓖 𝓡 =
     (cited 𝓤 H (Put 𝓤 H (𝓖 .A) (𝓜 .mem) (𝓡 .run)) 𝓜 𝓡 code.env #place·put-state put-def.routine code.calls-place·put-state (put-thm.met 𝓤 H 𝓜 𝓖 𝓡))
     (cited 𝓤 H (Keeps 𝓤 H (𝓖 .A) (𝓜 .mem) (𝓡 .run)) 𝓜 𝓡 code.env #change·keeps keeps-def.routine code.calls-change·keeps (keeps-thm.met 𝓤 H 𝓜 𝓖 𝓡))
     (cited 𝓤 H (Keep 𝓤 H (𝓖 .A) (𝓜 .mem) (𝓡 .run)) 𝓜 𝓡 code.env #place·keep kept-def.routine code.calls-place·keep (kept-thm.met 𝓤 H 𝓜 𝓖 𝓡))
-    (cited 𝓤 H (Before 𝓤 H (𝓖 .A) (𝓜 .mem) (𝓡 .run)) 𝓜 𝓡 code.env #place·before before-def.routine code.calls-place·before (before-thm.met 𝓤 H 𝓜 𝓖 𝓡))
+    (cited 𝓤 H (Lower 𝓤 H (𝓖 .A) (𝓜 .mem) (𝓡 .run)) 𝓜 𝓡 code.env #place·below below-def.routine code.calls-place·below (below-thm.met 𝓤 H 𝓜 𝓖 𝓡))
     (cited 𝓤 H (Amend 𝓤 H (𝓖 .A) (𝓜 .mem) (𝓡 .run)) 𝓜 𝓡 code.env #place·amend amend-def.routine code.calls-place·amend (amend-thm.met 𝓤 H 𝓜 𝓖 𝓡))
     (cited 𝓤 H (All 𝓤 H (𝓖 .A) (𝓜 .mem) (𝓡 .run)) 𝓜 𝓡 code.env #place·all-if all-def.routine code.calls-place·all-if (all-thm.met 𝓤 H 𝓜 𝓖 𝓡)))
