@@ -1,14 +1,14 @@
 /* main: checks that the proved code and the counterpart give the same, then times them side by side and prints a table.
+ * main before, where it is compiled with BEFORE: times the wire's proved functions against those of an earlier commit.
  * main loop HOW EVENT BOARDS TIMES: runs one step so many times, for a count of instructions. */
 #define _POSIX_C_SOURCE 199309L
 #include "same.h"
+#include "work.h"
 
 #include <stdio.h>
 #include <stdlib.h>
 #include <string.h>
 #include <time.h>
-
-enum { PANELS = 8 };
 
 static double now(void) {
     struct timespec t;
@@ -16,37 +16,9 @@ static double now(void) {
     return (double)t.tv_sec * 1e9 + (double)t.tv_nsec;
 }
 
-/* What is timed. Each job does `times` calls and gives a number that depends on them. */
-struct work {
-    const uint8_t *bytes;
-    size_t count;
-    struct panel panels[PANELS];
-    uint8_t acks[PANELS][CT_FRAME];
-    size_t ack_count;
-    uint8_t event;
-    uint8_t out[CT_FRAME];
-};
-
-typedef size_t job(struct work *w, size_t times);
-
-static size_t good_proved(struct work *w, size_t times) {
-    size_t sum = 0;
-    while (times-- > 0) sum += measure_good(w->bytes, w->count);
-    return sum;
-}
-
 static size_t good_counterpart(struct work *w, size_t times) {
     size_t sum = 0;
     while (times-- > 0) sum += ct_good(w->bytes, w->count);
-    return sum;
-}
-
-static size_t read_proved(struct work *w, size_t times) {
-    size_t sum = 0;
-    while (times-- > 0) {
-        struct read_numbers r = measure_read(w->bytes, w->count);
-        sum += r.header.message;
-    }
     return sum;
 }
 
@@ -56,15 +28,6 @@ static size_t read_counterpart(struct work *w, size_t times) {
         struct ct_frame f;
         if (ct_read(w->bytes, w->count, &f) == NADRELGOS_ACCEPTED) sum += f.header.message;
     }
-    return sum;
-}
-
-static size_t write_proved(struct work *w, size_t times) {
-    size_t sum = 0;
-    struct ct_header header;
-    memcpy(&header, w->bytes, sizeof header);
-    while (times-- > 0)
-        sum += measure_write(header, w->bytes + 10, w->count - CT_OVERHEAD, w->out, sizeof w->out).written;
     return sum;
 }
 
@@ -78,18 +41,6 @@ static size_t write_counterpart(struct work *w, size_t times) {
 }
 
 /* Goes on after each frame found, as framelist does. */
-static size_t list_proved(struct work *w, size_t times) {
-    size_t frames = 0;
-    while (times-- > 0)
-        for (size_t at = 0;;) {
-            struct nadrelgos_finding f = nadrelgos_find(w->bytes + at, w->count - at, w->count);
-            if (f.number != NADRELGOS_FOUND) break;
-            at += f.start + f.length;
-            frames++;
-        }
-    return frames;
-}
-
 static size_t list_counterpart(struct work *w, size_t times) {
     size_t frames = 0;
     while (times-- > 0)
@@ -162,33 +113,48 @@ static void time_clock(void) {
 
 /* ---- tables ---- */
 
-static void row(const char *name, struct work *w, job *proved, job *counterpart, size_t times, size_t rounds) {
+/* One side of the wire's table. */
+struct side {
+    const char *name;
+    job *good, *read, *write, *list;
+};
+
+static const struct side proved = {"proved", good_proved, read_proved, write_proved, list_proved};
+static const struct side counterpart = {"C -O2", good_counterpart, read_counterpart, write_counterpart, list_counterpart};
+
+#ifdef BEFORE
+/* wire.c over the functions of an earlier commit: bench/run has given all of them these names */
+job good_before, read_before, write_before, list_before;
+static const struct side before = {"before", good_before, read_before, write_before, list_before};
+#endif
+
+static void row(const char *name, struct work *w, job *ours, job *others, size_t times, size_t rounds) {
     double best[2];
-    race(w, (job *[]){proved, counterpart}, 2, times, rounds, best);
+    race(w, (job *[]){ours, others}, 2, times, rounds, best);
     printf("%-34s %12.1f %12.1f %8.2f\n", name, best[0], best[1], best[0] / best[1]);
 }
 
-static void wire_table(struct work *w) {
+static void wire_table(struct work *w, const struct side *other) {
     static uint8_t full[CT_FRAME], empty[CT_FRAME], capture[CAPTURE];
     size_t full_count = make_frame(CT_PAYLOAD, full), empty_count = make_frame(0, empty);
-    printf("%-34s %12s %12s %8s\n", "ns a call", "proved", "C -O2", "ratio");
+    printf("%-34s %12s %12s %8s\n", "ns a call", proved.name, other->name, "ratio");
     w->bytes = full, w->count = full_count;
-    row("checksum, 252 bytes", w, good_proved, good_counterpart, 20, 4000);
+    row("checksum, 252 bytes", w, proved.good, other->good, 20, 4000);
     w->bytes = empty, w->count = empty_count;
-    row("checksum, 12 bytes", w, good_proved, good_counterpart, 200, 4000);
+    row("checksum, 12 bytes", w, proved.good, other->good, 200, 4000);
     w->bytes = full, w->count = full_count;
-    row("read, payload of 240", w, read_proved, read_counterpart, 20, 4000);
+    row("read, payload of 240", w, proved.read, other->read, 20, 4000);
     w->bytes = empty, w->count = empty_count;
-    row("read, payload of 0", w, read_proved, read_counterpart, 200, 4000);
+    row("read, payload of 0", w, proved.read, other->read, 200, 4000);
     w->bytes = full, w->count = full_count;
-    row("write, payload of 240", w, write_proved, write_counterpart, 20, 4000);
+    row("write, payload of 240", w, proved.write, other->write, 20, 4000);
     w->bytes = empty, w->count = empty_count;
-    row("write, payload of 0", w, write_proved, write_counterpart, 200, 4000);
+    row("write, payload of 0", w, proved.write, other->write, 200, 4000);
     w->bytes = capture, w->count = CAPTURE;
     make_typical(capture);
-    row("find all in 4,096 bytes, typical", w, list_proved, list_counterpart, 1, 400);
+    row("find all in 4,096 bytes, typical", w, proved.list, other->list, 1, 400);
     make_worst(capture);
-    row("find in 4,096 bytes, worst", w, list_proved, list_counterpart, 1, 60);
+    row("find in 4,096 bytes, worst", w, proved.list, other->list, 1, 60);
 }
 
 enum { LENT, COUNTERPART, STEPPERS };
@@ -275,11 +241,18 @@ int main(int argc, char **argv) {
     static struct work w;
     if (argc == 6 && strcmp(argv[1], "loop") == 0)
         return loop(argv[2], argv[3], strtoul(argv[4], NULL, 10), strtoul(argv[5], NULL, 10));
+#ifdef BEFORE
+    if (argc == 2 && strcmp(argv[1], "before") == 0) {
+        time_clock();
+        wire_table(&w, &before);
+        return 0;
+    }
+#endif
     if (argc != 1) return loop("", "", 0, 0);
     if (!all_same()) return 1;
     printf("The proved code and the counterpart give the same answers, bytes and records on all that is timed.\n\n");
     time_clock();
-    wire_table(&w);
+    wire_table(&w, &counterpart);
     step_table(&w);
     growth_table(&w);
     return 0;

@@ -47,6 +47,14 @@ kit_link() { # PROGRAM [FLAGS...] OBJECTS... [ARCHIVES...]
         "$kit_lib/libc.so.6" "$kit_lib/libc_nonshared.a" "$kit_lib/libgcc.a" "$kit_lib/crtendS.o" "$kit_lib/crtn.o"
 }
 
+# A tool of Debian's binutils for x86-64 code, whatever the processor.
+kit_binutil() { # TOOL [WORDS...]
+    kit_tool=x86_64-linux-gnu-$1
+    shift
+    command -v "$kit_tool" >/dev/null || apt-get install -y binutils-x86-64-linux-gnu >/dev/null || die "there is no $kit_tool"
+    "$kit_tool" "$@"
+}
+
 # Whether programs run under the emulator, so that their times say nothing.
 kit_emulates() {
     [ -n "$kit_emulator" ]

@@ -1,6 +1,6 @@
 // The checksum of a CT-485 frame: two running sums over its bytes.
 ghost use mathlib.Core.Path.{_≡_};
-ghost use Prim.Native.Nat.{_<_, _≤_};
+ghost use Prim.Native.Nat.{_-_, _*_, _/_, _%_, _<_, _≤_};
 ghost use lib.ListN.{length};
 ghost use Rattle.fletcher.specs.Fletcher.{sumsFrom, sums, isGood, checkBytes};
 
@@ -17,6 +17,33 @@ fn wide(b: u8) -> u32
     b as u32
 }
 
+// The remainder by 255 of a number below 510: 255 is subtracted where it is in it.
+fn less_255(sum: u32) -> u32
+    requires { ⌜ sum < 510 ⌝ }
+    ensures { λ r. ⌜ r ≡ sum % 255 ⌝ }
+{
+    if sum < 255 { sum } else { sum - 255 }
+}
+
+// A number less 255 for each 256 in it: its remainder by 255 stays, and it falls to little more than its 256th part.
+fn lowered(sum: u32) -> u32
+    ensures { λ r. ⌜ r ≡ sum - 255 * (sum / 256) ⌝ }
+{
+    let times = sum >> 8;
+    sum - ((times << 8) - times)
+}
+
+// The remainder by 255 of any number, by comparing and subtracting in falling steps.
+fn remainder(sum: u32) -> u32
+    ensures { λ r. ⌜ r ≡ sum % 255 ⌝ }
+{
+    let mut rest = sum;
+    while 510 <= rest {
+        rest = lowered(rest);
+    }
+    less_255(rest)
+}
+
 // The sums continued over few enough bytes that they have room to grow: one remainder of each at the end does for all.
 fn continued(s: Sums, bytes: &[u8]) -> Sums
     requires { ⌜ (s .first < 255) × (s .second < 255) × (length (now bytes) ≤ 4096) ⌝ }
@@ -31,8 +58,8 @@ fn continued(s: Sums, bytes: &[u8]) -> Sums
         i += 1;
     }
     Sums {
-        first: first % 255,
-        second: second % 255,
+        first: remainder(first),
+        second: remainder(second),
     }
 }
 
@@ -66,7 +93,7 @@ pub fn check_bytes(bytes: &[u8]) -> [u8; 2]
     ensures { λ r. ⌜ r ≡ checkBytes (now (bytes .entry)) ⌝ }
 {
     let s = sums_over(bytes);
-    let first = 255 - (s.first + s.second) % 255;
-    let second = 255 - (s.first + first) % 255;
+    let first = 255 - less_255(s.first + s.second);
+    let second = 255 - less_255(s.first + first);
     [first as u8, second as u8]
 }

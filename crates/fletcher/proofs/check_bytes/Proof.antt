@@ -7,14 +7,20 @@ use Rattle.fletcher.proofs.check_bytes.Tie as tie
 sums-over-requires : tie.Need-sums-over-requires
 sums-over-requires c κs = search needs
 
-add-first : tie.Need-add-first
-add-first c = search needs
+add-less-255 : tie.Need-add-less-255
+add-less-255 c = search needs
+
+less-255-requires : tie.Need-less-255-requires
+less-255-requires c κs = search needs
 
 sub-first : tie.Need-sub-first
 sub-first c = search needs
 
-add-second : tie.Need-add-second
-add-second c = search needs
+add-less-255-2 : tie.Need-add-less-255-2
+add-less-255-2 c = search needs
+
+less-255-requires-2 : tie.Need-less-255-requires-2
+less-255-requires-2 c κs = search needs
 
 sub-second : tie.Need-sub-second
 sub-second c = search needs
@@ -26,9 +32,19 @@ cast-t8 : tie.Need-cast-t8
 cast-t8 c = search needs
 
 returns : tie.Need-returns
-returns c = rw (← (c .before .before .sums-over .ensures .0)) refl
+returns c = rw (c .less-2552 .ensures, c .before .before .less-255 .ensures, ← (c .before .before .before .before .sums-over .ensures .0)) refl
 
 pub check-bytes-spec : {M : Type 1} → statement M
 check-bytes-spec =
     tie.close
-    (tie.spec sums-over-requires add-first sub-first add-second sub-second cast-t7 cast-t8 returns)
+    (tie.spec
+    sums-over-requires
+    add-less-255
+    less-255-requires
+    sub-first
+    add-less-255-2
+    less-255-requires-2
+    sub-second
+    cast-t7
+    cast-t8
+    returns)

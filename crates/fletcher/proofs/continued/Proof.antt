@@ -43,8 +43,14 @@ loop-less c = search summing
 loop-again : tie.Need-loop-again Inv-loop μ-loop
 loop-again c = search summing
 
+remainder-requires : tie.Need-remainder-requires Inv-loop μ-loop
+remainder-requires c κs = search summing
+
+remainder-requires-2 : tie.Need-remainder-requires-2 Inv-loop μ-loop
+remainder-requires-2 c κs = search summing
+
 returns : tie.Need-returns Inv-loop μ-loop
-returns c = search summing
+returns c = rw (c .remainder2 .ensures, c .before .remainder .ensures) (search summing)
 
 pub continued-spec : {M : Type 1} → statement M
 continued-spec =
@@ -60,4 +66,6 @@ continued-spec =
     add-i
     loop-less
     loop-again
+    remainder-requires
+    remainder-requires-2
     returns)
