@@ -1,9 +1,9 @@
 -- The laws of the sums that everyone above cites.
-use Prim.Native.Nat.{ℕ, zero, suc, _+_, _-_, _%_, _≤_, _<_}
+use Prim.Native.Nat.{ℕ, suc, _+_, _-_, _%_, _≤_, _<_}
 use native.Mathlib.Omega.{arith}
 use native.Mathlib.Numerals.{add-one}
 use mathlib.Core.Path.{_≡_, refl, sym, ap, _∙_}
-use mathlib.Core.Bool.{Bool, true, false, _&&_}
+use mathlib.Core.Bool.{true, _&&_}
 use mathlib.Core.List.{List, [], _∷_, _++_}
 use lib.ListN.{length, getD, take, drop}
 use lib.Seq.{take-suc, take-add, take-length}
@@ -51,9 +51,32 @@ second-check-least s = omega arith
 pub second-check-most : (s : Sums) → secondCheck s ≤ 255
 second-check-most s = omega arith
 
--- byte 0 and byte 255 are alike to the sums
+-- bytes with one remainder by 255 are alike to the sums: equal ones, and 0 and 255
+alike-added : (s : Sums) (x y : ℕ) → x % 255 ≡ y % 255 → added s x ≡ added s y
+alike-added s x y h = ap (λ (z : ℕ). record { first = z; second = (s .second + z) % 255 }) (let e : (s .first + x) % 255 ≡ (s .first + y) % 255 = omega arith in e)
+
 pub alike : (s : Sums) → added s 0 ≡ added s 255
-alike s = ap (λ (x : ℕ). record { first = x; second = (s .second + x) % 255 }) (let e : (s .first + 0) % 255 ≡ (s .first + 255) % 255 = omega arith in e)
+alike s = alike-added s 0 255 refl
+
+alike-sums : (s : Sums) (xs ys : List ℕ) → length xs ≡ length ys → ((n : ℕ) → getD xs n 0 % 255 ≡ getD ys n 0 % 255) → sumsFrom s xs ≡ sumsFrom s ys
+unfolding sumsFrom
+alike-sums s [] [] q h = refl
+alike-sums s [] (y ∷ ys) q h = absurd (let z : ⊥ = omega arith in z)
+alike-sums s (x ∷ xs) [] q h = absurd (let z : ⊥ = omega arith in z)
+alike-sums s (x ∷ xs) (y ∷ ys) q h = ap (λ (t : Sums). sumsFrom t xs) (alike-added s x y (h 0)) ∙ alike-sums (added s y) xs ys (omega arith) (λ n. h (suc n))
+
+-- a good frame's sums are 0, and bytes whose sums are 0 are good
+pub good-first : (bs : List ℕ) → isGood bs ≡ true → sums bs .first ≡ 0
+good-first bs g = eqb-true _ _ (and-left (eqb (sums bs .first) 0) (eqb (sums bs .second) 0) g)
+
+pub good-second : (bs : List ℕ) → isGood bs ≡ true → sums bs .second ≡ 0
+good-second bs g = eqb-true _ _ (and-right (eqb (sums bs .first) 0) (eqb (sums bs .second) 0) g)
+
+pub sums-good : (bs : List ℕ) → sums bs .first ≡ 0 → sums bs .second ≡ 0 → isGood bs ≡ true
+sums-good bs f g = both (eqb (sums bs .first) 0) (eqb (sums bs .second) 0) (eq-eqb _ _ f) (eq-eqb _ _ g)
+
+pub alike-good : (xs ys : List ℕ) → length xs ≡ length ys → ((n : ℕ) → getD xs n 0 % 255 ≡ getD ys n 0 % 255) → isGood xs ≡ isGood ys
+alike-good xs ys q h = ap (λ (s : Sums). eqb (s .first) 0 && eqb (s .second) 0) (alike-sums seed xs ys q h)
 
 -- bytes with their check bytes are good
 closing-first : (s : Sums) → Small s → added (added s (firstCheck s)) (secondCheck s) .first ≡ 0
@@ -68,10 +91,12 @@ closing-second s h = rw (closing-first s h) (rw (after-first (s .first) (s .seco
 pub checked-good : (bs : List ℕ) → isGood (bs ++ checkBytes bs) ≡ true
 unfolding sumsFrom
 checked-good bs =
-    rw (sums-append seed bs (checkBytes bs))
-    (both (eqb (added (added (sums bs) (firstCheck (sums bs))) (secondCheck (sums bs)) .first) 0) (eqb (added (added (sums bs) (firstCheck (sums bs))) (secondCheck (sums bs)) .second) 0)
-    (eq-eqb _ _ (closing-first (sums bs) (sums-small seed bs seed-small)))
-    (eq-eqb _ _ (closing-second (sums bs) (sums-small seed bs seed-small))))
+    sums-good (bs ++ checkBytes bs)
+    (ap (λ (x : Sums). x .first) over ∙ closing-first (sums bs) (sums-small seed bs seed-small))
+    (ap (λ (x : Sums). x .second) over ∙ closing-second (sums bs) (sums-small seed bs seed-small))
+  where
+    over : sumsFrom seed (bs ++ checkBytes bs) ≡ added (added (sums bs) (firstCheck (sums bs))) (secondCheck (sums bs))
+    over = sums-append seed bs (checkBytes bs)
 
 -- bytes c and d that close the sums are the check bytes, but for a 0 that is written 255
 never-zero-case : (c x : ℕ) → (c ≡ 0 → x ≡ 255) → ((c ≡ 0 → ⊥) → x ≡ c) → x ≡ neverZero c
@@ -116,10 +141,10 @@ only-check bs c d hc hd g = rw (second-is (sums bs) c d small hc hd one two, fir
     over = sums-append seed bs (c ∷ d ∷ [])
 
     one : added (added (sums bs) c) d .first ≡ 0
-    one = ap (λ (x : Sums). x .first) (sym over) ∙ eqb-true _ _ (and-left (eqb (sums (bs ++ c ∷ d ∷ []) .first) 0) (eqb (sums (bs ++ c ∷ d ∷ []) .second) 0) g)
+    one = ap (λ (x : Sums). x .first) (sym over) ∙ good-first (bs ++ c ∷ d ∷ []) g
 
     two : added (added (sums bs) c) d .second ≡ 0
-    two = ap (λ (x : Sums). x .second) (sym over) ∙ eqb-true _ _ (and-right (eqb (sums (bs ++ c ∷ d ∷ []) .first) 0) (eqb (sums (bs ++ c ∷ d ∷ []) .second) 0) g)
+    two = ap (λ (x : Sums). x .second) (sym over) ∙ good-second (bs ++ c ∷ d ∷ []) g
 
 -- sums of which the remainders are still to be taken
 abbrev pub reduced : ℕ → ℕ → Sums

@@ -1,2 +1,7 @@
 pub mod Laws
+pub mod Factors
+pub mod Shifted
+pub mod Moved
+pub mod Caught
+pub mod Slips
 pub mod Unique

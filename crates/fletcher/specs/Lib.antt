@@ -1,1 +1,2 @@
 pub mod Fletcher
+pub mod Caught

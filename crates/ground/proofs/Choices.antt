@@ -75,6 +75,11 @@ not-yes b h = rw h refl
 pub not-no : (b : Bool) → b ≡ true → not b ≡ false
 not-no b h = rw h refl
 
+-- a test that cannot hold fails
+pub never : (b : Bool) → (b ≡ true → ⊥) → b ≡ false
+never true h = absurd (h refl)
+never false h = refl
+
 -- a definition by cases at a value of which the case is known
 pub by-case {ℓ κ} : {A : Type ℓ} {B : Type κ} (f : A → B) {x y : A} {r : B} → x ≡ y → r ≡ f y → r ≡ f x
 by-case f e h = h ∙ sym (ap f e)

@@ -5,9 +5,10 @@ use native.Mathlib.Omega.{arith}
 use native.Mathlib.Decide.{ℕ-discrete}
 use mathlib.Core.Path.{_≡_, refl, ap, _∙_, sym}
 use mathlib.Core.Bool.{Bool, true, false, _&&_, _||_, false≢true}
+use mathlib.Core.Logic.{_⊎_, inl, inr}
 use borrow.Author.Needs.{needs}
 use Rattle.ground.specs.Below.{one, all, some, count}
-use Rattle.ground.proofs.Choices.{and-left, and-right, both, or-left, or-right}
+use Rattle.ground.proofs.Choices.{and-left, and-right, both, or-left, or-right, either, never}
 
 pub all-more : (p : ℕ → Bool) (i : ℕ) → all p (i + 1) ≡ (all p i && p i)
 unfolding all
@@ -93,13 +94,19 @@ some-of p (suc n) i l h = go (λ m. some-of p n i m h) (ℕ-discrete i n)
     go r (yes e) = or-right (some p n) (p n) (ap p (sym e) ∙ h)
     go r (no ne) = or-left (some p n) (p n) (r (omega arith))
 
+-- a test of some that holds holds at a number
+pub some-at : (p : ℕ → Bool) (n : ℕ) → some p n ≡ true → (i : ℕ) × (i < n) × (p i ≡ true)
+unfolding some
+some-at p zero h = absurd (false≢true h)
+some-at p (suc n) h = go (some-at p n) (either (some p n) (p n) h)
+  where
+    go : (some p n ≡ true → (i : ℕ) × (i < n) × (p i ≡ true)) → (some p n ≡ true) ⊎ (p n ≡ true) → (i : ℕ) × (i < suc n) × (p i ≡ true)
+    go r (inl below) = (r below .0, omega (arith, r below .1), r below .2)
+    go r (inr last) = (n, omega arith, last)
+
 -- a test of some that fails fails at each number
 pub none-of : (p : ℕ → Bool) (n i : ℕ) → some p n ≡ false → i < n → p i ≡ false
-none-of p n i h l = go (p i) refl
-  where
-    go : (b : Bool) → p i ≡ b → p i ≡ false
-    go false e = e
-    go true e = absurd (false≢true (sym h ∙ some-of p n i l e))
+none-of p n i h l = never (p i) (λ e. false≢true (sym h ∙ some-of p n i l e))
 
 -- a test that fails at each number fails of some
 pub some-no : (p : ℕ → Bool) (n : ℕ) → ((i : ℕ) → i < n → p i ≡ false) → some p n ≡ false
