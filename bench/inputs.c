@@ -34,17 +34,26 @@ size_t make_ack(const ct_coordinator *c, const ct_node *nodes, size_t position, 
     return framed(&header, payload, sizeof payload, out);
 }
 
-void make_typical(uint8_t capture[CAPTURE]) {
+/* Frames with less than `noise` bytes of noise before each. */
+static void make_capture(uint8_t capture[CAPTURE], size_t noise) {
     static const size_t lengths[] = {17, 17, 0, 41, 17, 240, 17, 5};
     uint64_t seed = 1;
     for (size_t i = 0; i < CAPTURE; i++) capture[i] = (uint8_t)next_random(&seed);
     size_t at = 0;
     for (size_t i = 0;; i++) {
         size_t length = lengths[i % (sizeof lengths / sizeof *lengths)];
-        at += next_random(&seed) % 24;
+        at += next_random(&seed) % noise;
         if (at + CT_OVERHEAD + length > CAPTURE) return;
         at += make_frame(length, capture + at);
     }
+}
+
+void make_typical(uint8_t capture[CAPTURE]) {
+    make_capture(capture, 24);
+}
+
+void make_quiet(uint8_t capture[CAPTURE]) {
+    make_capture(capture, 1);
 }
 
 void make_worst(uint8_t capture[CAPTURE]) {

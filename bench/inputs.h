@@ -18,6 +18,9 @@ size_t make_ack(const ct_coordinator *c, const ct_node *nodes, size_t position, 
 /* Good frames with noise between. */
 void make_typical(uint8_t capture[CAPTURE]);
 
+/* Good frames one right after another, as on a line without noise. */
+void make_quiet(uint8_t capture[CAPTURE]);
+
 /* No good frame, and at every start a candidate of the longest length. */
 void make_worst(uint8_t capture[CAPTURE]);
 

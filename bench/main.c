@@ -1,6 +1,7 @@
 /* main: checks that the proved code and the counterpart give the same, then times them side by side and prints a table.
  * main before, where it is compiled with BEFORE: times the wire's proved functions against those of an earlier commit.
- * main loop HOW EVENT BOARDS TIMES: runs one step so many times, for a count of instructions. */
+ * main loop HOW EVENT BOARDS TIMES: runs one step so many times, for a count of instructions.
+ * main list SIDE CAPTURE TIMES: finds all in a capture so many times, for the same. */
 #define _POSIX_C_SOURCE 199309L
 #include "same.h"
 #include "work.h"
@@ -37,6 +38,17 @@ static size_t write_counterpart(struct work *w, size_t times) {
     memcpy(&header, w->bytes, sizeof header);
     while (times-- > 0)
         sum += ct_write(&header, w->bytes + 10, w->count - CT_OVERHEAD, w->out, sizeof w->out) == NADRELGOS_ACCEPTED;
+    return sum;
+}
+
+/* Here and not in wire.c, which is compiled for an earlier commit too, and that may not have it. */
+static size_t write_ready_proved(struct work *w, size_t times) {
+    size_t sum = 0;
+    struct ct_header header;
+    memcpy(&header, w->bytes, sizeof header);
+    struct ready ready = measure_prepare(header);
+    while (times-- > 0)
+        sum += measure_write_ready(ready, w->bytes + 10, w->count - CT_OVERHEAD, w->out, sizeof w->out).written;
     return sum;
 }
 
@@ -153,8 +165,23 @@ static void wire_table(struct work *w, const struct side *other) {
     w->bytes = capture, w->count = CAPTURE;
     make_typical(capture);
     row("find all in 4,096 bytes, typical", w, proved.list, other->list, 1, 400);
+    make_quiet(capture);
+    row("find all in 4,096 bytes, no noise", w, proved.list, other->list, 1, 400);
     make_worst(capture);
     row("find in 4,096 bytes, worst", w, proved.list, other->list, 1, 60);
+}
+
+/* From a ready header beside `write`, both ours. */
+static void ready_table(struct work *w) {
+    static const size_t lengths[] = {CT_PAYLOAD, 0};
+    static uint8_t frame[CT_FRAME];
+    printf("\n%-34s %12s %12s %8s\n", "ns a call", "write_ready", "write", "ratio");
+    for (size_t i = 0; i < 2; i++) {
+        char name[64];
+        w->bytes = frame, w->count = make_frame(lengths[i], frame);
+        snprintf(name, sizeof name, "payload of %zu", lengths[i]);
+        row(name, w, write_ready_proved, write_proved, 20, 4000);
+    }
 }
 
 enum { LENT, COUNTERPART, STEPPERS };
@@ -217,9 +244,11 @@ static void growth_table(struct work *w) {
         }
 }
 
-/* ---- one step over and over ---- */
+/* ---- one step, or one capture, over and over ---- */
 
-static int loop(const char *what, const char *event, size_t boards, size_t times) {
+int main(int argc, char **argv);
+
+static bool loop(const char *what, const char *event, size_t boards, size_t times) {
     static struct work w;
     static const char *const names[STEPPERS] = {"lent", "counterpart"};
     static const char *const event_words[] = {"turn", "frame", "quiet"};
@@ -231,28 +260,59 @@ static int loop(const char *what, const char *event, size_t boards, size_t times
                     set_panels(&w, boards, events[e]);
                     sink += steppers[j](&w, 1);
                 }
-                return 0;
+                return true;
             }
-    fprintf(stderr, "usage: main [loop lent|counterpart turn|frame|quiet BOARDS TIMES]\n");
+    return false;
+}
+
+static bool list(const char *what, const char *capture_name, size_t times) {
+    static uint8_t capture[CAPTURE];
+    static struct work w = {.bytes = capture, .count = CAPTURE};
+    static void (*const makers[])(uint8_t *) = {make_typical, make_quiet, make_worst};
+    static const char *const capture_names[] = {"typical", "quiet", "worst"};
+    static job *const listers[] = {list_proved, list_counterpart};
+    static const char *const names[] = {"proved", "counterpart"};
+    for (size_t c = 0; c < 3; c++)
+        for (size_t j = 0; j < 2; j++)
+            if (strcmp(capture_name, capture_names[c]) == 0 && strcmp(what, names[j]) == 0) {
+                job *volatile lister = listers[j]; /* called, whatever the compiler would make of it */
+                makers[c](capture);
+                sink += lister(&w, times);
+                return true;
+            }
+    return false;
+}
+
+/* Says where main is loaded, for whoever counts in a log of addresses. */
+static int done(bool known) {
+    if (known) {
+        printf("%zx\n", (size_t)(uintptr_t)main);
+        return 0;
+    }
+    fprintf(stderr, "usage: main [loop lent|counterpart turn|frame|quiet BOARDS TIMES]\n"
+                    "       main [list proved|counterpart typical|quiet|worst TIMES]\n");
     return 2;
 }
 
 int main(int argc, char **argv) {
     static struct work w;
     if (argc == 6 && strcmp(argv[1], "loop") == 0)
-        return loop(argv[2], argv[3], strtoul(argv[4], NULL, 10), strtoul(argv[5], NULL, 10));
+        return done(loop(argv[2], argv[3], strtoul(argv[4], NULL, 10), strtoul(argv[5], NULL, 10)));
+    if (argc == 5 && strcmp(argv[1], "list") == 0) return done(list(argv[2], argv[3], strtoul(argv[4], NULL, 10)));
 #ifdef BEFORE
     if (argc == 2 && strcmp(argv[1], "before") == 0) {
         time_clock();
         wire_table(&w, &before);
+        ready_table(&w);
         return 0;
     }
 #endif
-    if (argc != 1) return loop("", "", 0, 0);
+    if (argc != 1) return done(false);
     if (!all_same()) return 1;
     printf("The proved code and the counterpart give the same answers, bytes and records on all that is timed.\n\n");
     time_clock();
     wire_table(&w, &counterpart);
+    ready_table(&w);
     step_table(&w);
     growth_table(&w);
     return 0;

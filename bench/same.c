@@ -76,13 +76,31 @@ static bool same_writing(const uint8_t *bytes, size_t length, size_t room) {
     memcpy(&header, bytes, sizeof header);
     struct write_numbers w = measure_write(header, bytes + 10, length, a, room);
     ct_refusal refusal = ct_write(&header, bytes + 10, length, b, room);
-    return w.refusal == refusal && w.written == (refusal ? 0 : CT_OVERHEAD + length) && memcmp(a, b, sizeof a) == 0;
+    if (w.refusal != refusal || w.written != (refusal ? 0 : CT_OVERHEAD + length) || memcmp(a, b, sizeof a) != 0)
+        return false;
+    memset(a, 0xEE, sizeof a);
+    struct write_numbers r = measure_write_ready(measure_prepare(header), bytes + 10, length, a, room);
+    return r.refusal == w.refusal && r.written == w.written && memcmp(a, b, sizeof a) == 0;
 }
 
 static bool same_finding(const uint8_t *bytes, size_t count, size_t budget) {
     struct nadrelgos_finding a = nadrelgos_find(bytes, count, budget);
     ct_finding b = ct_find(bytes, count, budget);
     return a.number == b.number && a.start == b.start && a.length == b.length && a.tried == b.tried;
+}
+
+/* The finder sums a long stretch in parts of 3,845 starts: a frame in noise at every place about the end of the first. */
+static bool same_parts(void) {
+    enum { PART = 3845, LONG = 2 * CAPTURE };
+    static uint8_t noise[LONG], stretch[LONG];
+    uint64_t seed = 3;
+    for (size_t i = 0; i < LONG; i++) noise[i] = (uint8_t)next_random(&seed);
+    for (size_t at = PART - CT_FRAME; at <= PART + CT_FRAME; at++) {
+        memcpy(stretch, noise, LONG);
+        make_frame(at % (CT_PAYLOAD + 1), stretch + at);
+        if (!same_finding(stretch, LONG, LONG)) return false;
+    }
+    return same_finding(noise, LONG, LONG) && same_finding(noise, LONG, PART) && same_finding(noise, LONG, PART + 1);
 }
 
 static bool same_wire(void) {
@@ -100,7 +118,8 @@ static bool same_wire(void) {
     for (size_t at = 0; at < CAPTURE; at++)
         if (!same_finding(capture + at, CAPTURE - at, CAPTURE) || !same_finding(capture, at, at / 2)) return false;
     make_worst(capture);
-    return same_finding(capture, CAPTURE, CAPTURE) && ct_find(capture, CAPTURE, CAPTURE).number == NADRELGOS_NOTHING;
+    return same_parts() && same_finding(capture, CAPTURE, CAPTURE) &&
+           ct_find(capture, CAPTURE, CAPTURE).number == NADRELGOS_NOTHING;
 }
 
 /* ---- steps ---- */

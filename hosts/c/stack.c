@@ -23,13 +23,15 @@ static uint8_t pool[NADRELGOS_NODES];
 static uint8_t out[NADRELGOS_ROOM];
 static uint8_t received[WIRE_MOST];
 static size_t received_count;
+static uint8_t capture[4096]; /* no good frame, and room for the longest at every start */
+static bool astray; /* something came out otherwise than this program means it to */
 
 /* ---- a call on a painted stack */
 
 static _Alignas(64) uint8_t stack[STACK];
 
 /* what is called: a step by its event's number, or one of these */
-enum { SETUP = 0, MARK = 6, CALLS = 7, NOTHING = 255 };
+enum { SETUP = 0, MARK = 6, FIND = 7, CALLS = 8, NOTHING = 255 };
 
 struct call {
     uint8_t event;
@@ -37,6 +39,11 @@ struct call {
     uint64_t mac;
     uint64_t answer;
 };
+
+/* By itself, so that the room for what it finds is not counted with the other calls. */
+__attribute__((noinline)) static void find(void) {
+    if (nadrelgos_find(capture, sizeof capture, sizeof capture).number != NADRELGOS_NOTHING) astray = true;
+}
 
 static void make(struct call *call) {
     switch (call->event) {
@@ -47,6 +54,7 @@ static void make(struct call *call) {
     case MARK:
         call->answer = nadrelgos_mark(nodes, NADRELGOS_NODES, NADRELGOS_NODES);
         break;
+    case FIND: find(); break;
     default:
         call->answer = nadrelgos_step(&coordinator, nodes, NADRELGOS_NODES, call->event, call->kind, call->mac, 1,
                                       received, received_count, out, sizeof out);
@@ -76,7 +84,6 @@ static size_t depth(struct call *call) {
 
 static size_t nothing, deepest[CALLS];
 static unsigned calls, refused;
-static bool astray; /* something came out otherwise than this program means it to */
 
 static uint64_t measure(uint8_t event, uint8_t kind, uint64_t mac) {
     struct call call = {event, kind, mac, 0};
@@ -212,15 +219,17 @@ int main(void) {
     }
     if (nodes[0].kind != 0) astray = true;
     measure(MARK, 0, 0);
+    memset(capture, LONGEST, sizeof capture);
+    measure(FIND, 0, 0);
     if (astray) {
         printf("stack: the panel did not do what this program means to measure\n");
         return 1;
     }
 
     printf("stack of one call, in bytes, over %u calls on a full table (%u refused):\n", calls, refused);
-    printf("  setup %u, join %u, turn %u, frame %u, quiet %u, discover %u, mark %u\n", (unsigned)deepest[SETUP],
+    printf("  setup %u, join %u, turn %u, frame %u, quiet %u, discover %u, mark %u, find %u\n", (unsigned)deepest[SETUP],
            (unsigned)deepest[NADRELGOS_EVENT_JOIN], (unsigned)deepest[NADRELGOS_EVENT_TURN],
            (unsigned)deepest[NADRELGOS_EVENT_FRAME], (unsigned)deepest[NADRELGOS_EVENT_QUIET],
-           (unsigned)deepest[NADRELGOS_EVENT_DISCOVER], (unsigned)deepest[MARK]);
+           (unsigned)deepest[NADRELGOS_EVENT_DISCOVER], (unsigned)deepest[MARK], (unsigned)deepest[FIND]);
     return 0;
 }

@@ -1,4 +1,6 @@
 pub mod Laws
+pub mod Trail
+pub mod Near
 pub mod Exactly
 pub mod Readable
 pub mod Unique

@@ -1,2 +1,3 @@
 pub mod Finder
 pub mod Numbers
+pub mod Trail

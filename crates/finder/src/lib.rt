@@ -1,10 +1,14 @@
 // Finds the first good frame in a stretch of line bytes, trying no more starts than the budget allows.
+use fletcher::Run;
+use fletcher::Sums;
 ghost use mathlib.Core.Path.{_≡_};
-ghost use Prim.Native.Nat.{_+_, _-_, _≤_, _<_};
-ghost use lib.ListN.{length};
+ghost use Prim.Native.Nat.{_+_, _-_, _*_, _/_, _≤_, _<_, max};
+ghost use lib.ListN.{length, take, drop};
 ghost use Rattle.ground.specs.Below.{firstOr, upFrom};
+ghost use Rattle.fletcher.specs.Fletcher.{isGood};
 ghost use Rattle.finder.specs.Finder.{lengthAt, holdsFrame, finding, told};
 ghost use Rattle.finder.specs.Numbers.{findNumbers};
+ghost use Rattle.finder.specs.Trail.{hasRoom, sumsTo, apart, NotedAt, NotedTo};
 
 // What looking finds, and how many starts were tried: the found one counted, all of them, or the whole budget.
 pub enum Finding {
@@ -42,35 +46,164 @@ fn length_at(bytes: &[u8], at: usize) -> usize
     bytes[i] as usize
 }
 
-// Whether a good frame begins here.
-fn holds_frame(bytes: &[u8], at: usize) -> bool
+// Whether a frame can begin here: its payload is not too long, and it ends before the stretch does.
+fn has_room(bytes: &[u8], at: usize) -> bool
     requires { ⌜ at + 12 ≤ length (now bytes) ⌝ }
-    ensures { λ r. ⌜ r ≡ holdsFrame (now (bytes .entry)) at ⌝ }
+    ensures { λ r. ⌜ r ≡ hasRoom (now (bytes .entry)) at ⌝ }
 {
     let n = length_at(bytes, at);
     if n <= 240 {
-        if 12 + n <= bytes.len() - at {
-            let end = at + (12 + n);
-            fletcher::good(&bytes[at..end])
-        } else {
-            false
-        }
+        12 + n <= bytes.len() - at
     } else {
         false
     }
 }
 
-// The first of the first `limit` starts that holds a good frame; `limit` where none does.
+// Whether a good frame begins here, by its own sums.
+fn holds_frame(bytes: &[u8], at: usize) -> bool
+    requires { ⌜ at + 12 ≤ length (now bytes) ⌝ }
+    ensures { λ r. ⌜ r ≡ holdsFrame (now (bytes .entry)) at ⌝ }
+{
+    if has_room(bytes, at) {
+        let end = at + (12 + length_at(bytes, at));
+        fletcher::good(&bytes[at..end])
+    } else {
+        false
+    }
+}
+
+// The sums before a place, continued from those before an earlier one.
+fn sums_on(bytes: &[u8], from: usize, before: Sums, place: usize) -> Sums
+    requires { ⌜ (from ≤ place) × (place ≤ length (now bytes)) × (place ≤ 4096) × (before ≡ sumsTo (now bytes) from) ⌝ }
+    ensures { λ r. ⌜ r ≡ sumsTo (now (bytes .entry)) place ⌝ }
+{
+    let mut first = before.first;
+    let mut second = before.second;
+    let mut i = from;
+    while i < place {
+        first += bytes[i] as u32;
+        second += first;
+        i += 1;
+    }
+    Sums {
+        first: first,
+        second: second,
+    }
+}
+
+// Notes the sums before every fourth place up to `end`, from the last noted one on; how many fours are noted then.
+fn note(
+    bytes: &[u8],
+    firsts: &mut [u32; 64],
+    seconds: &mut [u32; 64],
+    noted: usize,
+    end: usize,
+) -> usize
+    requires { ⌜ NotedTo (now bytes) (now firsts) (now seconds) noted × (end ≤ length (now bytes)) × (end ≤ 4096) × (noted ≤ 1024) ⌝ }
+    ensures { λ r. ⌜ NotedTo (now (bytes .entry)) (now (firsts .exit)) (now (seconds .exit)) r × (r ≡ max noted (end / 4)) ⌝ }
+{
+    let mut sums = Sums {
+        first: firsts[noted % 64],
+        second: seconds[noted % 64],
+    };
+    let mut j = noted;
+    while j < end / 4 {
+        sums = sums_on(bytes, 4 * j, sums, 4 * j + 4);
+        j += 1;
+        firsts[j % 64] = sums.first;
+        seconds[j % 64] = sums.second;
+    }
+    j
+}
+
+// The sums before a place, from the last noted ones before it.
+fn sums_to(bytes: &[u8], firsts: &[u32; 64], seconds: &[u32; 64], place: usize) -> Sums
+    requires { ⌜ (place ≤ length (now bytes)) × (place ≤ 4096) × NotedAt (now bytes) (now firsts) (now seconds) (place / 4) ⌝ }
+    ensures { λ r. ⌜ r ≡ sumsTo (now (bytes .entry)) place ⌝ }
+{
+    let j = place / 4;
+    let noted = Sums {
+        first: firsts[j % 64],
+        second: seconds[j % 64],
+    };
+    sums_on(bytes, 4 * j, noted, place)
+}
+
+// The run between two places, by the sums before them.
+fn between(before: Sums, after: Sums, long: u32) -> Run
+    requires { ⌜ (before .first ≤ after .first) × (before .second + long * before .first ≤ after .second) ⌝ }
+    ensures { λ r. ⌜ r ≡ apart before after long ⌝ }
+{
+    Run {
+        first: after.first - before.first,
+        second: after.second - before.second - long * before.first,
+        length: long,
+    }
+}
+
+// Whether the frame that has room here is good, by the difference of the sums before its end and before its start.
+fn good_at(bytes: &[u8], firsts: &[u32; 64], seconds: &[u32; 64], at: usize, before: Sums) -> bool
+    requires { ⌜ (at + (12 + lengthAt (now bytes) at) ≤ length (now bytes)) × (at + (12 + lengthAt (now bytes) at) ≤ 4096) × (before ≡ sumsTo (now bytes) at) × NotedAt (now bytes) (now firsts) (now seconds) ((at + (12 + lengthAt (now bytes) at)) / 4) ⌝ }
+    ensures { λ r. ⌜ r ≡ isGood (take (12 + lengthAt (now (bytes .entry)) at) (drop at (now (bytes .entry)))) ⌝ }
+{
+    let long = 12 + length_at(bytes, at);
+    let after = sums_to(bytes, firsts, seconds, at + long);
+    fletcher::good_run(between(before, after, long as u32))
+}
+
+// The first of so many starts that holds a good frame, with the bytes summed once for all of them; `count` where none does.
+fn first_noted(bytes: &[u8], count: usize) -> usize
+    requires { ⌜ (count ≤ length (now bytes) - 11) × (count ≤ 3845) ⌝ }
+    ensures { λ r. ⌜ r ≡ firstOr count (holdsFrame (now (bytes .entry))) (upFrom 0 count) ⌝ }
+{
+    let mut firsts = [0u32; 64];
+    let mut seconds = [0u32; 64];
+    let mut noted: usize = 0;
+    let mut before = Sums {
+        first: 0,
+        second: 0,
+    };
+    let mut at: usize = 0;
+    while at < count {
+        if has_room(bytes, at) {
+            let end = at + (12 + length_at(bytes, at));
+            noted = note(bytes, &mut firsts, &mut seconds, noted, end);
+            if good_at(bytes, &firsts, &seconds, at, before) {
+                return at;
+            }
+        }
+        before = sums_on(bytes, at, before, at + 1);
+        at += 1;
+    }
+    count
+}
+
+// The same. Where a frame begins at once, as one does right after another, its own sums say so, and nothing is noted.
+fn first_near(bytes: &[u8], count: usize) -> usize
+    requires { ⌜ (0 < count) × (count ≤ length (now bytes) - 11) × (count ≤ 3845) ⌝ }
+    ensures { λ r. ⌜ r ≡ firstOr count (holdsFrame (now (bytes .entry))) (upFrom 0 count) ⌝ }
+{
+    if holds_frame(bytes, 0) {
+        0
+    } else {
+        first_noted(bytes, count)
+    }
+}
+
+// The first of the first `limit` starts that holds a good frame; `limit` where none does. They are looked through in parts of 3,845:
+// the longest frame from the last of these ends 4,096 bytes on, and over so many the sums do not leave 32 bits.
 fn first_frame(bytes: &[u8], limit: usize) -> usize
     requires { ⌜ limit ≤ length (now bytes) - 11 ⌝ }
     ensures { λ r. ⌜ r ≡ firstOr limit (holdsFrame (now (bytes .entry))) (upFrom 0 limit) ⌝ }
 {
     let mut at: usize = 0;
     while at < limit {
-        if holds_frame(bytes, at) {
-            return at;
+        let count = ground::least(limit - at, 3845);
+        let found = first_near(&bytes[at..], count);
+        if found < count {
+            return at + found;
         }
-        at += 1;
+        at += count;
     }
     limit
 }

@@ -159,16 +159,20 @@ reduced-added f g b = λ i. record { first = one i; second = two i }
     two : (g + (f + b)) % 255 ≡ (g % 255 + (f % 255 + b) % 255) % 255
     two = omega arith
 
--- a loop that adds the bytes one by one and takes the remainders at its end: the first i are done
-pub reduced-none : (s : Sums) (bs : List ℕ) → s .first < 255 → s .second < 255 → reduced (s .first) (s .second) ≡ sumsFrom s (take 0 bs)
-unfolding sumsFrom
-reduced-none s bs h l = λ i. record { first = one i; second = two i }
+-- sums below 255 are their own remainders
+pub small-reduced : (s : Sums) → s .first < 255 → s .second < 255 → reduced (s .first) (s .second) ≡ s
+small-reduced s h l = λ i. record { first = one i; second = two i }
   where
     one : s .first % 255 ≡ s .first
     one = omega arith
 
     two : s .second % 255 ≡ s .second
     two = omega arith
+
+-- a loop that adds the bytes one by one and takes the remainders at its end: the first i are done
+pub reduced-none : (s : Sums) (bs : List ℕ) → s .first < 255 → s .second < 255 → reduced (s .first) (s .second) ≡ sumsFrom s (take 0 bs)
+unfolding sumsFrom
+reduced-none s bs h l = small-reduced s h l
 
 pub reduced-step : (s : Sums) (bs : List ℕ) (i b f g : ℕ) → reduced f g ≡ sumsFrom s (take i bs) → i < length bs → b ≡ getD bs i 0 → reduced (f + b) (g + (f + b)) ≡ sumsFrom s (take (i + 1) bs)
 unfolding sumsFrom
@@ -178,17 +182,17 @@ pub reduced-end : (s : Sums) (bs : List ℕ) (i f g : ℕ) → reduced f g ≡ s
 reduced-end s bs i f g h a b = h ∙ rw (let e : i ≡ length bs = omega arith in e) (rw (take-length bs) refl)
 
 -- a loop that continues the sums over one stretch after another: the first i bytes are done
-pub sums-none : (bs : List ℕ) → seed ≡ sums (take 0 bs)
+pub sums-none : (s : Sums) (bs : List ℕ) → s ≡ sumsFrom s (take 0 bs)
 unfolding sumsFrom
-sums-none bs = refl
+sums-none s bs = refl
 
-pub sums-stretch : (bs : List ℕ) (i e : ℕ) (s r : Sums) → i ≤ e → s ≡ sums (take i bs) → r ≡ sumsFrom s (take (e - i) (drop i bs)) → r ≡ sums (take e bs)
-sums-stretch bs i e s r l h q =
+pub sums-stretch : (s : Sums) (bs : List ℕ) (i e : ℕ) (t r : Sums) → i ≤ e → t ≡ sumsFrom s (take i bs) → r ≡ sumsFrom t (take (e - i) (drop i bs)) → r ≡ sumsFrom s (take e bs)
+sums-stretch s bs i e t r l h q =
     rw (let b : e ≡ i + (e - i) = omega arith in b)
-    (rw (take-add i (e - i) bs, sums-append seed (take i bs) (take (e - i) (drop i bs)), ← h) q)
+    (rw (take-add i (e - i) bs, sums-append s (take i bs) (take (e - i) (drop i bs)), ← h) q)
 
-pub sums-end : (bs : List ℕ) (i : ℕ) (s : Sums) → s ≡ sums (take i bs) → i ≤ length bs → length bs ≤ i → s ≡ sums bs
-sums-end bs i s h a b = h ∙ rw (let e : i ≡ length bs = omega arith in e) (rw (take-length bs) refl)
+pub sums-end : (s : Sums) (bs : List ℕ) (i : ℕ) (t : Sums) → t ≡ sumsFrom s (take i bs) → i ≤ length bs → length bs ≤ i → t ≡ sumsFrom s bs
+sums-end s bs i t h a b = h ∙ rw (let e : i ≡ length bs = omega arith in e) (rw (take-length bs) refl)
 
 -- what closes each need of such loops
 pub ruleset summing = (needs, reduced-none, reduced-step, reduced-end, sums-none, sums-stretch, sums-end)

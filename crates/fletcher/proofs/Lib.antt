@@ -1,6 +1,8 @@
 pub mod Laws
 pub mod Factors
 pub mod Shifted
+pub mod Joined
+pub mod Unreduced
 pub mod Moved
 pub mod Caught
 pub mod Slips

@@ -1,2 +1,3 @@
 pub mod Fletcher
+pub mod Joined
 pub mod Caught

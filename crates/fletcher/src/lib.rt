@@ -2,12 +2,20 @@
 ghost use mathlib.Core.Path.{_≡_};
 ghost use Prim.Native.Nat.{_-_, _*_, _/_, _%_, _<_, _≤_};
 ghost use lib.ListN.{length};
-ghost use Rattle.fletcher.specs.Fletcher.{sumsFrom, sums, isGood, checkBytes};
+ghost use Rattle.fletcher.specs.Fletcher.{seed, sumsFrom, sums, isGood, checkBytes};
+ghost use Rattle.fletcher.specs.Joined.{runOf, joined, started, sumsOf, closing, isGoodRun};
 
 // The two sums. Each is below 255 wherever this crate made them.
 pub struct Sums {
     pub first: u32,
     pub second: u32,
+}
+
+// A run of bytes: its sums by itself, from 0 and 0, of which the remainders need not be taken, and its length.
+pub struct Run {
+    pub first: u32,
+    pub second: u32,
+    pub length: u32,
 }
 
 // A byte as a number that has room for sums.
@@ -63,14 +71,12 @@ fn continued(s: Sums, bytes: &[u8]) -> Sums
     }
 }
 
-// The sums over bytes from the first to the last.
-pub fn sums_over(bytes: &[u8]) -> Sums
-    ensures { λ r. ⌜ (r ≡ sums (now (bytes .entry))) × (r .first < 255) × (r .second < 255) ⌝ }
+// The sums continued over any bytes.
+fn sums_after(before: Sums, bytes: &[u8]) -> Sums
+    requires { ⌜ (before .first < 255) × (before .second < 255) ⌝ }
+    ensures { λ r. ⌜ (r ≡ sumsFrom before (now (bytes .entry))) × (r .first < 255) × (r .second < 255) ⌝ }
 {
-    let mut s = Sums {
-        first: 170,
-        second: 0,
-    };
+    let mut s = before;
     let mut i: usize = 0;
     while i < bytes.len() {
         let end = i + ground::least(bytes.len() - i, 4096);
@@ -78,6 +84,23 @@ pub fn sums_over(bytes: &[u8]) -> Sums
         i = end;
     }
     s
+}
+
+// What the sums over a frame start at.
+pub fn seed() -> Sums
+    ensures { λ r. ⌜ r ≡ seed ⌝ }
+{
+    Sums {
+        first: 170,
+        second: 0,
+    }
+}
+
+// The sums over bytes from the first to the last.
+pub fn sums_over(bytes: &[u8]) -> Sums
+    ensures { λ r. ⌜ (r ≡ sums (now (bytes .entry))) × (r .first < 255) × (r .second < 255) ⌝ }
+{
+    sums_after(seed(), bytes)
 }
 
 // Whether bytes, their check bytes among them, are a good frame's.
@@ -88,12 +111,36 @@ pub fn good(bytes: &[u8]) -> bool
     (s.first == 0) & (s.second == 0)
 }
 
+// Whether a run is a good frame's. The seed's 170 and 85 make 255; few runs pass that test, and only they are tested further.
+pub fn good_run(run: Run) -> bool
+    ensures { λ r. ⌜ r ≡ isGoodRun run ⌝ }
+{
+    if remainder(run.first) == 85 {
+        remainder(remainder(run.second) + remainder(run.length) * 170) == 0
+    } else {
+        false
+    }
+}
+
+// The two check bytes after bytes, where the sums over all before these bytes are given.
+pub fn check_after(before: Sums, bytes: &[u8]) -> [u8; 2]
+    ensures { λ r. ⌜ r ≡ closing (sumsOf (joined (started before) (runOf (now (bytes .entry))))) ⌝ }
+{
+    let s = sums_after(
+        Sums {
+            first: remainder(before.first),
+            second: remainder(before.second),
+        },
+        bytes,
+    );
+    let first = 255 - less_255(s.first + s.second);
+    let second = 255 - less_255(s.first + first);
+    [first as u8, second as u8]
+}
+
 // The two check bytes that make these bytes good.
 pub fn check_bytes(bytes: &[u8]) -> [u8; 2]
     ensures { λ r. ⌜ r ≡ checkBytes (now (bytes .entry)) ⌝ }
 {
-    let s = sums_over(bytes);
-    let first = 255 - less_255(s.first + s.second);
-    let second = 255 - less_255(s.first + first);
-    [first as u8, second as u8]
+    check_after(seed(), bytes)
 }

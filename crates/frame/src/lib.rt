@@ -1,4 +1,5 @@
 // The CT-485 frame: its fields, the reader and the writer.
+use fletcher::Sums;
 use refusal::Refusal;
 ghost use mathlib.Core.Path.{_≡_};
 ghost use mathlib.Core.List.{_++_, _∷_, []};
@@ -7,6 +8,7 @@ ghost use lib.ListN.{length};
 ghost use lib.Seq.{paste};
 ghost use Rattle.ground.specs.Bytes.{laid};
 ghost use Rattle.frame.specs.Frame.{fields, headerOf, told, reading, payloadOf, toldWritten, writing, writtenBytes};
+ghost use Rattle.frame.specs.ReadyHeader.{readyOf, readyBytes, closedBytes};
 
 // The nine bytes before the payload length, in the order of the wire.
 #[repr(C)]
@@ -20,6 +22,14 @@ pub struct Header {
     pub kind: u8,
     pub message: u8,
     pub packet: u8,
+}
+
+// A ready header: the nine fields and the sums over them, each below 255 where `prepare` made it.
+#[repr(C)]
+pub struct Ready {
+    pub header: Header,
+    pub first: u8,
+    pub second: u8,
 }
 
 // What reading finds: the header and the payload's length, or why there is no frame.
@@ -114,9 +124,10 @@ fn head(header: Header, n: u8) -> [u8; 10]
     ]
 }
 
-// Writes a frame with this header and payload at the front of out.
-pub fn write(header: Header, payload: &[u8], out: &mut [u8]) -> Writing
-    ensures { λ r. ⌜ (toldWritten r ≡ writing (now (payload .entry)) (length (now (out .entry)))) × (now (out .exit) ≡ laid (writtenBytes header (now (payload .entry)) (length (now (out .entry)))) (now (out .entry))) ⌝ }
+// Writes a frame at the front of out. The sums over its bytes before `from` are given, so that only those from there on are summed.
+fn written(header: Header, before: Sums, from: usize, payload: &[u8], out: &mut [u8]) -> Writing
+    requires { ⌜ from ≤ 10 ⌝ }
+    ensures { λ r. ⌜ (toldWritten r ≡ writing (now (payload .entry)) (length (now (out .entry)))) × (now (out .exit) ≡ laid (closedBytes header before from (now (payload .entry)) (length (now (out .entry)))) (now (out .entry))) ⌝ }
 {
     let n = payload.len();
     if 240 < n {
@@ -129,7 +140,39 @@ pub fn write(header: Header, payload: &[u8], out: &mut [u8]) -> Writing
     lay(out, 0, &front);
     lay(out, 10, payload);
     let end = 10 + n;
-    let check = fletcher::check_bytes(&out[..end]);
+    let check = fletcher::check_after(before, &out[from..end]);
     lay(out, end, &check);
     Writing::Written(12 + n)
+}
+
+// Writes a frame with this header and payload at the front of out.
+pub fn write(header: Header, payload: &[u8], out: &mut [u8]) -> Writing
+    ensures { λ r. ⌜ (toldWritten r ≡ writing (now (payload .entry)) (length (now (out .entry)))) × (now (out .exit) ≡ laid (writtenBytes header (now (payload .entry)) (length (now (out .entry)))) (now (out .entry))) ⌝ }
+{
+    written(header, fletcher::seed(), 0, payload, out)
+}
+
+// Makes a header ready: its fields, the first nine bytes of any head, are summed here once for all frames written from it.
+pub fn prepare(header: Header) -> Ready
+    ensures { λ r. ⌜ r ≡ readyOf header ⌝ }
+{
+    let front = head(header, 0);
+    let s = fletcher::sums_over(&front[..9]);
+    Ready {
+        header: header,
+        first: s.first as u8,
+        second: s.second as u8,
+    }
+}
+
+// Writes a frame with a ready header and this payload at the front of out: only the length byte and the payload are summed.
+pub fn write_ready(ready: Ready, payload: &[u8], out: &mut [u8]) -> Writing
+    ensures { λ r. ⌜ (toldWritten r ≡ writing (now (payload .entry)) (length (now (out .entry)))) × (now (out .exit) ≡ laid (readyBytes ready (now (payload .entry)) (length (now (out .entry)))) (now (out .entry))) ⌝ }
+{
+    let header = ready.header;
+    let kept = Sums {
+        first: ready.first as u32,
+        second: ready.second as u32,
+    };
+    written(header, kept, 9, payload, out)
 }

@@ -1,7 +1,7 @@
 -- The laws of the first number that passes a test, and what closes each need of a loop that looks for it.
 use Prim.Native.Nat.{ℕ, zero, suc, _+_, _-_, _≤_, _<_}
 use native.Mathlib.Omega.{arith}
-use native.Mathlib.Decide.{ℕ-discrete}
+use native.Mathlib.Decide.{ℕ-discrete, decLt}
 use mathlib.Core.Path.{_≡_, refl, ap, _∙_, sym}
 use mathlib.Core.Logic.{_⊎_, inl, inr}
 use mathlib.Core.List.{List, [], _∷_, _++_}
@@ -99,3 +99,26 @@ first-of-fewer d p a zero zero h none = refl
 first-of-fewer d p a zero (suc m) h none = absurd (let z : ⊥ = omega arith in z)
 first-of-fewer d p a (suc n) zero h none = rw (none a (omega arith) (omega arith)) (first-of-fewer d p (a + 1) n 0 (omega arith) (λ i l u. none i (omega arith) (omega arith)))
 first-of-fewer d p a (suc n) (suc m) h none = ap (choose (p a) a) (first-of-fewer d p (a + 1) n m (omega arith) (λ i l u. none i (omega arith) (omega arith)))
+
+-- and the other way round: what is the first, or that none passes, tells what is given
+pub first-is : (d : ℕ) (p : ℕ → Bool) (a n x : ℕ) → First p a n x → firstOr d p (upFrom a n) ≡ x
+first-is d p a n x h = go (first-case d p a n)
+  where
+    y : ℕ
+    y = firstOr d p (upFrom a n)
+
+    apart : First p a n y → Dec (y < x) → Dec (x < y) → y ≡ x
+    apart f (yes l) _ = absurd (false≢true (sym (h .before y (f .from) l) ∙ f .passes))
+    apart f (no nl) (yes l) = absurd (false≢true (sym (f .before x (h .from) l) ∙ h .passes))
+    apart f (no nl) (no nm) = omega (arith, nl, nm)
+
+    go : FirstCase d p a n y → y ≡ x
+    go (inl (none, e)) = absurd (false≢true (sym (none x (h .from) (h .within)) ∙ h .passes))
+    go (inr f) = apart f (decLt y x) (decLt x y)
+
+pub none-is : (d : ℕ) (p : ℕ → Bool) (a n : ℕ) → None p a n → firstOr d p (upFrom a n) ≡ d
+none-is d p a n h = go (first-case d p a n)
+  where
+    go : FirstCase d p a n (firstOr d p (upFrom a n)) → firstOr d p (upFrom a n) ≡ d
+    go (inl (none, e)) = e
+    go (inr f) = absurd (false≢true (sym (h _ (f .from) (f .within)) ∙ f .passes))

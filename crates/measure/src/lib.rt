@@ -1,12 +1,14 @@
 // What the benchmark calls: the proved functions for C, each with its answer as plain numbers.
 use frame::Header;
 use frame::Reading;
+use frame::Ready;
 use frame::Writing;
 ghost use mathlib.Core.Path.{_≡_};
 ghost use lib.ListN.{length};
 ghost use Rattle.ground.specs.Bytes.{laid};
 ghost use Rattle.fletcher.specs.Fletcher.{isGood};
-ghost use Rattle.frame.specs.Frame.{reading, writing, writtenBytes};
+ghost use Rattle.frame.specs.Frame.{reading, toldWritten, writing, writtenBytes};
+ghost use Rattle.frame.specs.ReadyHeader.{readyOf, readyBytes};
 ghost use Rattle.measure.specs.Numbers.{readNumbers, writeNumbers};
 
 // A reading: the refusal's number or 0, and the header and the payload's length, all 0 on a refusal.
@@ -66,12 +68,11 @@ pub extern "C" fn measure_read(bytes: &[u8]) -> ReadNumbers
     }
 }
 
-// Writes a frame.
-#[no_mangle]
-pub extern "C" fn measure_write(header: Header, payload: &[u8], out: &mut [u8]) -> WriteNumbers
-    ensures { λ r. ⌜ (r ≡ writeNumbers (writing (now (payload .entry)) (length (now (out .entry))))) × (now (out .exit) ≡ laid (writtenBytes header (now (payload .entry)) (length (now (out .entry)))) (now (out .entry))) ⌝ }
+// The numbers of a writing, whichever writer's.
+fn numbers_of(answer: Writing) -> WriteNumbers
+    ensures { λ r. ⌜ r ≡ writeNumbers (toldWritten answer) ⌝ }
 {
-    match frame::write(header, payload, out) {
+    match answer {
         Writing::Written(n) => WriteNumbers {
             refusal: 0,
             written: n,
@@ -81,4 +82,28 @@ pub extern "C" fn measure_write(header: Header, payload: &[u8], out: &mut [u8]) 
             written: 0,
         },
     }
+}
+
+// Writes a frame.
+#[no_mangle]
+pub extern "C" fn measure_write(header: Header, payload: &[u8], out: &mut [u8]) -> WriteNumbers
+    ensures { λ r. ⌜ (r ≡ writeNumbers (writing (now (payload .entry)) (length (now (out .entry))))) × (now (out .exit) ≡ laid (writtenBytes header (now (payload .entry)) (length (now (out .entry)))) (now (out .entry))) ⌝ }
+{
+    numbers_of(frame::write(header, payload, out))
+}
+
+// Makes a header ready.
+#[no_mangle]
+pub extern "C" fn measure_prepare(header: Header) -> Ready
+    ensures { λ r. ⌜ r ≡ readyOf header ⌝ }
+{
+    frame::prepare(header)
+}
+
+// Writes a frame from a ready header.
+#[no_mangle]
+pub extern "C" fn measure_write_ready(ready: Ready, payload: &[u8], out: &mut [u8]) -> WriteNumbers
+    ensures { λ r. ⌜ (r ≡ writeNumbers (writing (now (payload .entry)) (length (now (out .entry))))) × (now (out .exit) ≡ laid (readyBytes ready (now (payload .entry)) (length (now (out .entry)))) (now (out .entry))) ⌝ }
+{
+    numbers_of(frame::write_ready(ready, payload, out))
 }

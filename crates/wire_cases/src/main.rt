@@ -93,8 +93,16 @@ fn read_case(label: &[u8], bytes: &[u8]) {
     print_text(b"\n");
 }
 
-// Writes into the lent bytes and prints all of them as they are afterwards.
-fn write_case(label: &[u8], payload: &[u8], out: &mut [u8]) {
+// Prints what writing did, and all of the lent bytes as they are afterwards.
+fn print_written(writing: Writing, out: &[u8]) {
+    print_writing(writing);
+    print_text(b", out:");
+    print_bytes(out);
+    print_text(b"\n");
+}
+
+// Writes into the lent bytes, and the same from a ready header into those lent beside them.
+fn write_case(label: &[u8], payload: &[u8], out: &mut [u8], beside: &mut [u8]) {
     let header = Header {
         destination: 2,
         source: 255,
@@ -107,10 +115,12 @@ fn write_case(label: &[u8], payload: &[u8], out: &mut [u8]) {
         packet: 0,
     };
     print_text(label);
-    print_writing(frame::write(header, payload, out));
-    print_text(b", out:");
-    print_bytes(out);
-    print_text(b"\n");
+    print_written(frame::write(header, payload, out), out);
+    print_text(b"   ready:");
+    print_written(
+        frame::write_ready(frame::prepare(header), payload, beside),
+        beside,
+    );
 }
 
 // Prints the finding: found with start, length and starts tried; nothing or spent with starts tried.
@@ -179,10 +189,27 @@ fn refused_cases() {
 // The lent bytes are all aa before.
 fn write_cases() {
     let mut out = [170u8; 16];
-    write_case(b"241 bytes of payload in room 16:", &[7; 241], &mut out);
+    let mut beside = [170u8; 16];
+    write_case(
+        b"241 bytes of payload in room 16:",
+        &[7; 241],
+        &mut out,
+        &mut beside,
+    );
     let mut short = [170u8; 13];
-    write_case(b"2 bytes of payload in room 13:", b"\x06\x07", &mut short);
-    write_case(b"2 bytes of payload in room 16:", b"\x06\x07", &mut out);
+    let mut short_beside = [170u8; 13];
+    write_case(
+        b"2 bytes of payload in room 13:",
+        b"\x06\x07",
+        &mut short,
+        &mut short_beside,
+    );
+    write_case(
+        b"2 bytes of payload in room 16:",
+        b"\x06\x07",
+        &mut out,
+        &mut beside,
+    );
 }
 
 fn tries_none_cases() {

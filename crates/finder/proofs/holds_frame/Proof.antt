@@ -1,21 +1,19 @@
--- `finder::holds_frame` meets its contract: each return follows the tests that led there.
+-- `finder::holds_frame` meets its contract: a frame that has room is judged by its own sums.
 use Prim.Native.Nat.{_+_}
+use native.Mathlib.Omega.{arith}
 use native.Mathlib.Nat.{add-sub-cancel-left}
-use borrow.Author.Tests.{le-leb, lt-leb}
-use Rattle.ground.proofs.Choices.{and-yes, and-no}
-use Rattle.finder.specs.Finder.{holdsFrame}
+use mathlib.Core.Path.{sym, _∙_}
+use denote.Ref.{now}
+use Rattle.finder.proofs.Trail.{with-room, without-room, room}
 use borrow.Author.Needs.{needs}
 use Rattle.finder.proofs.holds_frame.Statement.{statement}
 use Rattle.finder.proofs.holds_frame.Tie as tie
 
+has-room-requires : tie.Need-has-room-requires
+has-room-requires c κs = search needs
+
 length-at-requires : tie.Need-length-at-requires
 length-at-requires c κs = search needs
-
-add-if2 : tie.Need-add-if2
-add-if2 c = search needs
-
-sub-if2 : tie.Need-sub-if2
-sub-if2 c = search needs
 
 add-end : tie.Need-add-end
 add-end c = search needs
@@ -30,30 +28,29 @@ part-good-start : tie.Need-part-good-start
 part-good-start c = search needs
 
 part-good-end : tie.Need-part-good-end
-part-good-end c = search needs
+part-good-end c =
+    let args = c .before .before .before .before .args in
+    omega (arith, c .length-at .ensures, room (now (args .bytes)) (args .at) (omega arith) (sym (c .before .before .has-room .ensures) ∙ c .before .if1 .taken) .inside)
 
 good-requires : tie.Need-good-requires
 good-requires c κs = search needs
 
 returns : tie.Need-returns
-unfolding holdsFrame
-returns c = rw (← (c .before .before .before .before .length-at .ensures .0)) (and-yes _ _ _ (le-leb _ _ (c .before .before .before .if1 .taken)) (and-yes _ _ _ (le-leb _ _ (c .before .before .if2 .taken)) (rw (add-sub-cancel-left (c .before .before .before .before .before .before .args .at) (12 + c .before .before .before .before .length-at .result)) at (c .good2 .ensures))))
+returns c =
+    let args = c .before .before .before .before .before .before .args in
+    let long = c .before .before .length-at in
+    with-room _ _ _ (sym (c .before .before .before .before .has-room .ensures) ∙ c .before .before .before .if1 .taken)
+    (rw (← (long .ensures .0)) (rw (add-sub-cancel-left (args .at) (12 + long .result)) at (c .good2 .ensures)))
 
 returns-2 : tie.Need-returns-2
-unfolding holdsFrame
-returns-2 c = rw (← (c .before .before .length-at .ensures .0)) (and-yes _ _ _ (le-leb _ _ (c .before .if1 .taken)) (and-no _ _ (lt-leb _ _ (c .if2 .left))))
-
-returns-3 : tie.Need-returns-3
-unfolding holdsFrame
-returns-3 c = rw (← (c .before .length-at .ensures .0)) (and-no _ _ (lt-leb _ _ (c .if1 .left)))
+returns-2 c = without-room _ _ (sym (c .before .has-room .ensures) ∙ c .if1 .left)
 
 pub holds-frame-spec : {M : Type 1} → statement M
 holds-frame-spec =
     tie.close
     (tie.spec
+    has-room-requires
     length-at-requires
-    add-if2
-    sub-if2
     add-end
     add-end-2
     sub-good
@@ -61,5 +58,4 @@ holds-frame-spec =
     part-good-end
     good-requires
     returns
-    returns-2
-    returns-3)
+    returns-2)

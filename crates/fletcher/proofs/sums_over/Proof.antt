@@ -1,66 +1,17 @@
--- `fletcher::sums_over` meets its contract. The loop's invariant: the sums are those over the bytes passed.
-use Prim.Native.Nat.{_-_, _≤_, _<_}
-use mathlib.Core.Path.{_≡_}
+-- `fletcher::sums_over` meets its contract, by what `sums_after` ensures.
 use native.Mathlib.Omega.{arith}
-use lib.ListN.{length, take}
-use Rattle.fletcher.specs.Fletcher.{sums}
-use Rattle.fletcher.proofs.Laws.{sums-stretch, summing}
+use borrow.Author.Needs.{needs}
 use Rattle.fletcher.proofs.sums_over.Statement.{statement}
 use Rattle.fletcher.proofs.sums_over.Tie as tie
 
-abbrev Inv-loop : tie.InvT-loop
-Inv-loop bytes s₀ i₀ s i = (i ≤ length bytes) × (s ≡ sums (take i bytes)) × (s .first < 255) × (s .second < 255)
+seed-requires : tie.Need-seed-requires
+seed-requires c κs = search needs
 
-abbrev μ-loop : tie.MeasureT-loop
-μ-loop bytes s₀ i₀ s i = length bytes - i
+sums-after-requires : tie.Need-sums-after-requires
+sums-after-requires c κs = rw (c .seed .ensures) (omega arith, omega arith)
 
-loop-holds : tie.Need-loop-holds Inv-loop μ-loop
-loop-holds c = search summing
-
-sub-least : tie.Need-sub-least Inv-loop μ-loop
-sub-least c = search summing
-
-least-requires : tie.Need-least-requires Inv-loop μ-loop
-least-requires c κs = search summing
-
-add-end : tie.Need-add-end Inv-loop μ-loop
-add-end c = search summing
-
-sub-continued : tie.Need-sub-continued Inv-loop μ-loop
-sub-continued c = search summing
-
-part-continued-start : tie.Need-part-continued-start Inv-loop μ-loop
-part-continued-start c = search summing
-
-part-continued-end : tie.Need-part-continued-end Inv-loop μ-loop
-part-continued-end c = search summing
-
-continued-requires : tie.Need-continued-requires Inv-loop μ-loop
-continued-requires c κs = search summing
-
-loop-less : tie.Need-loop-less Inv-loop μ-loop
-loop-less c = search summing
-
-loop-again : tie.Need-loop-again Inv-loop μ-loop
-loop-again c = (search summing, sums-stretch _ (c .before .before .before .before .loop .i) _ _ _ (search summing) (c .before .before .before .before .loop .inv .1) (c .continued .ensures .0), search summing, search summing)
-
-returns : tie.Need-returns Inv-loop μ-loop
-returns c = search summing
+returns : tie.Need-returns
+returns c = rw (c .before .seed .ensures) at (c .sums-after .ensures)
 
 pub sums-over-spec : {M : Type 1} → statement M
-sums-over-spec =
-    tie.close
-    (tie.spec
-    Inv-loop
-    μ-loop
-    loop-holds
-    sub-least
-    least-requires
-    add-end
-    sub-continued
-    part-continued-start
-    part-continued-end
-    continued-requires
-    loop-less
-    loop-again
-    returns)
+sums-over-spec = tie.close (tie.spec seed-requires sums-after-requires returns)
