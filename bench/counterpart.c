@@ -122,11 +122,11 @@ static size_t lowest_owed(const ct_node *nodes, size_t k) {
     return 0;
 }
 
-static uint8_t index_of(const ct_node *nodes, size_t position) {
-    uint8_t index = 0, kind = nodes[position - 1].kind;
-    for (size_t i = 0; i + 1 < position; i++)
-        if (nodes[i].kind == kind) index++;
-    return index;
+/* Every index counted anew, in one pass: boards come, go and change their types too seldom for more. */
+static void count_indexes(ct_node *nodes) {
+    uint8_t lower[256] = {0}; /* of each type, at lower positions */
+    for (size_t i = 0; i < NADRELGOS_NODES; i++)
+        nodes[i].index = nodes[i].kind ? lower[nodes[i].kind]++ : 0;
 }
 
 static void owe_all(ct_node *nodes) {
@@ -145,14 +145,16 @@ static bool pool_fits(const uint8_t *addresses, size_t k) {
 }
 
 static bool record_fits(const ct_node *n, bool may_be_listed) {
-    if (n->kind == 0) return n->mac == 0 && n->session == 0 && n->misses == 0 && n->owed == 0;
+    if (n->kind == 0) return n->mac == 0 && n->session == 0 && n->misses == 0 && n->owed == 0 && n->index == 0;
     return may_be_listed && n->kind != OUR_KIND && is_mac(n->mac) && n->misses <= 2 && n->owed <= 1;
 }
 
 static bool table_fits(const ct_node *nodes, size_t k) {
+    uint8_t lower[256] = {0}; /* of each type, at lower positions */
     for (size_t i = 0; i < NADRELGOS_NODES; i++) {
         if (!record_fits(&nodes[i], i < k)) return false;
         if (nodes[i].kind == 0) continue;
+        if (nodes[i].index != lower[nodes[i].kind]++) return false;
         for (size_t j = 0; j < i; j++)
             if (nodes[j].mac == nodes[i].mac) return false;
     }
@@ -258,6 +260,7 @@ struct ct_answer ct_join(ct_coordinator *c, ct_node *nodes, size_t nodes_count, 
     size_t position = known ? known : open;
     if (position == 0) return refuse(NADRELGOS_FULL);
     nodes[position - 1] = (ct_node){.kind = kind, .mac = mac, .session = session};
+    count_indexes(nodes);
     owe_all(nodes);
     c->held = 1;
     struct ct_answer answer = does(NADRELGOS_REST, 0);
@@ -282,7 +285,7 @@ static struct ct_header own_header(const ct_coordinator *c, const ct_node *nodes
     return (struct ct_header){.destination = address_of(c, board),
                               .source = COORDINATOR,
                               .subnet = c->setup.subnet,
-                              .parameter2 = index_of(nodes, board),
+                              .parameter2 = nodes[board - 1].index,
                               .kind = OUR_KIND,
                               .message = message,
                               .packet = packet};
@@ -377,7 +380,7 @@ struct ct_answer ct_turn(ct_coordinator *c, ct_node *nodes, size_t nodes_count, 
     if (c->stand.stage == CT_STAGE_RETURN_DUE)
         return turn_carried(c, 0, CT_STAGE_WAIT_RETURN, NADRELGOS_RETURN, out, room);
     if (c->stand.stage == CT_STAGE_FORWARD_DUE)
-        return turn_carried(c, index_of(nodes, c->stand.requester), CT_STAGE_WAIT_FORWARD, NADRELGOS_FORWARD, out,
+        return turn_carried(c, nodes[c->stand.requester - 1].index, CT_STAGE_WAIT_FORWARD, NADRELGOS_FORWARD, out,
                             room);
     size_t owed = lowest_owed(nodes, c->setup.k);
     if (owed) return turn_list(c, nodes, owed, out, room);
@@ -546,6 +549,7 @@ struct ct_answer ct_quiet(ct_coordinator *c, ct_node *nodes, size_t nodes_count)
             n->misses++;
         } else {
             memset(n, 0, sizeof *n);
+            count_indexes(nodes);
             owe_all(nodes);
             if (!anyone_listed(nodes)) c->held = 0;
             answer.dropped = (uint8_t)board;

@@ -61,13 +61,16 @@ void make_worst(uint8_t capture[CAPTURE]) {
 }
 
 void make_panel(struct panel *p, size_t boards, size_t last) {
+    enum { KINDS = 4 }; /* in turn, so that every fourth board has one more as its index */
     uint8_t pool[NADRELGOS_NODES];
     memset(p, 0, sizeof *p);
     for (size_t i = 0; i < NADRELGOS_NODES; i++) pool[i] = (uint8_t)(16 + i);
     ct_setup(&p->coordinator, p->nodes, NADRELGOS_NODES, pool, NADRELGOS_NODES, 3, 21, 0xA1B2C3D4E5,
              0x1122334455667788);
     for (size_t i = 0; i < boards; i++)
-        p->nodes[i] =
-            (ct_node){.kind = (uint8_t)(2 + i % 4), .mac = 0x00A0B0C0D0E000 + i, .session = 0x0102030405060708 + i};
+        p->nodes[i] = (ct_node){.kind = (uint8_t)(2 + i % KINDS),
+                                .mac = 0x00A0B0C0D0E000 + i,
+                                .session = 0x0102030405060708 + i,
+                                .index = (uint8_t)(i / KINDS)};
     p->coordinator.last = last;
 }

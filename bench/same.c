@@ -30,7 +30,7 @@ uint64_t step_counterpart(struct panel *p, uint8_t event, uint8_t kind, uint64_t
 
 static bool same_node(const ct_node *a, const ct_node *b) {
     return a->kind == b->kind && a->mac == b->mac && a->session == b->session && a->misses == b->misses &&
-           a->owed == b->owed;
+           a->owed == b->owed && a->index == b->index;
 }
 
 static bool same_setup(const struct nadrelgos_settings *a, const struct nadrelgos_settings *b) {
@@ -184,13 +184,15 @@ static size_t random_frame(const struct panel *p, uint64_t *seed, uint8_t *out) 
     return count - (next_random(seed) % 32 == 0);
 }
 
-/* One byte of what is lent is changed for one step. */
+/* One bit of what is lent is changed for one step: anywhere in the coordinator or the records, or in an index. */
 static void spoil(struct panel *p, uint64_t *seed) {
-    if (next_random(seed) % 2)
-        ((uint8_t *)&p->coordinator)[next_random(seed) % sizeof p->coordinator] ^=
-            (uint8_t)(1 << next_random(seed) % 8);
-    else
-        ((uint8_t *)p->nodes)[next_random(seed) % sizeof p->nodes] ^= (uint8_t)(1 << next_random(seed) % 8);
+    uint8_t *byte;
+    switch (next_random(seed) % 3) {
+    case 0: byte = (uint8_t *)&p->coordinator + next_random(seed) % sizeof p->coordinator; break;
+    case 1: byte = (uint8_t *)p->nodes + next_random(seed) % sizeof p->nodes; break;
+    default: byte = &p->nodes[next_random(seed) % NADRELGOS_NODES].index; break;
+    }
+    *byte ^= (uint8_t)(1 << next_random(seed) % 8);
 }
 
 static bool same_play(size_t boards, size_t steps) {
@@ -267,6 +269,21 @@ static bool same_corners(void) {
     return theirs.nodes[0].kind == 0 && theirs.coordinator.held == 0;
 }
 
+/* Every number as the index of every record, listed or free: the right one and all that are wrong. */
+static bool same_indexes(void) {
+    struct panel fit;
+    make_panel(&fit, NADRELGOS_NODES / 2, 0);
+    for (size_t i = 0; i < NADRELGOS_NODES; i++)
+        for (unsigned index = 0; index <= UINT8_MAX; index++)
+            for (uint8_t event = NADRELGOS_EVENT_JOIN; event <= NADRELGOS_EVENT_QUIET; event++) {
+                struct panel ours = fit, theirs;
+                ours.nodes[i].index = (uint8_t)index;
+                theirs = ours;
+                if (!same_step(&ours, &theirs, event, 3, 1, 1, nothing, 0, CT_FRAME)) return false;
+            }
+    return true;
+}
+
 static bool same_setup_of(const uint8_t *pool, size_t k, size_t nodes_count, uint64_t mac) {
     struct panel ours, theirs;
     make_panel(&theirs, 8, 3);
@@ -300,7 +317,7 @@ static bool same_steps(void) {
     static const size_t boards[] = {1, 8, 40};
     for (size_t i = 0; i < 3; i++)
         if (!same_round(boards[i]) || !same_play(boards[i], 20000)) return false;
-    return same_corners();
+    return same_corners() && same_indexes();
 }
 
 bool all_same(void) {

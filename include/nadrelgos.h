@@ -64,10 +64,10 @@
  *                later discovery.
  *     assign     Set Address was sent to what was found. It joins where it answers the same from the new address.
  *   A board that joins in the exchange needs no nadrelgos_join: NADRELGOS_TRANSMIT names its position, and its record
- *   has the type that it gave, also where it was listed before. The node list is then owed to every board, and
- *   further joins and discoveries are held until the next offer. Every other end breaks the exchange off, and the
- *   same boards are listed as before. Quiet in the exchange is a miss for no board. While it runs no other join or
- *   discovery is taken (14). It has at most six accepted steps.
+ *   has the type that it gave, also where it was listed before; the indexes follow, other boards' too. The node list is
+ *   then owed to every board, and further joins and discoveries are held until the next offer. Every other end breaks
+ *   the exchange off, and the same boards are listed as before. Quiet in the exchange is a miss for no board. While it
+ *   runs no other join or discovery is taken (14). It has at most six accepted steps.
  *
  * HOW LONG TO WAIT
  *   Three seconds in each wait, and three more where an ACK was answered by NADRELGOS_WAIT (Networking Specification,
@@ -85,10 +85,17 @@
  *   while (9.1.2). Turns, frames and quiets go on meanwhile.
  *
  * READING THE RECORDS
- *   Between calls the host may read every field, as for its screen: the table is the list of who is there. It must not
- *   write them. A step tests fit and answers 22 where what it finds breaks a rule, but a changed record can be fit,
- *   and then the step goes by it: who stays on the list, the turns and the rest of demand 3 are promised of records
- *   that only setup and the steps have written. Bytes between the fields have no meaning: compare by fields.
+ *   Between calls the host may read every field, as for its screen: the table is the list of who is there, with the
+ *   index of each, which need not be counted. It must not write any. A step tests fit and answers 22 where what it
+ *   finds breaks a rule, but a changed record can be fit, and then the step goes by it: who stays on the list, the
+ *   turns and the rest of demand 3 are promised of records that only setup and the steps have written. Bytes between
+ *   the fields have no meaning: compare by fields.
+ *
+ * RECORDS THAT THE HOST MAKES
+ *   A table that the host makes itself, or brings back from where it was stored, must have the right index in every
+ *   record, 0 in a free one, or every step is refused 22. One that was stored by a firmware whose records had no index
+ *   has padding in its place, any byte. nadrelgos_clear at position 0, which names nobody, counts the index of every
+ *   record and changes nothing else; or list the boards anew by nadrelgos_list, which counts them all too.
  */
 #ifndef NADRELGOS_H
 #define NADRELGOS_H
@@ -119,6 +126,9 @@ struct nadrelgos_node {
     uint64_t session; /* as the board last gave it when it joined, or in an ACK to an offer, a forward or a return */
     uint8_t misses;   /* messages in a row that it left unanswered since it joined or was last heard: 0 to 2 */
     uint8_t owed;     /* 1 where the node list is still to be sent to it, else 0 */
+    uint8_t index;    /* how many boards of its type are listed at lower positions, 0 to 39: it moves as these come, go
+                         and change their types. Parameter 2 of the panel's own frames to it, and of its requests that
+                         are forwarded */
 };
 
 /* What setup was told. */
@@ -270,7 +280,8 @@ enum nadrelgos_refusal_number {
     /* any call */
     NADRELGOS_STATE_UNFIT = 22 /* nodes_count is not 40; or, in a step, coordinator and table are not fit: no setup was
                                   accepted, or something else has written to them. Call nadrelgos_setup; the boards
-                                  have to join again */
+                                  have to join again. Where the host has made or stored the table itself, look at its
+                                  indexes first: see RECORDS THAT THE HOST MAKES */
 };
 
 /*
@@ -304,15 +315,16 @@ uint64_t nadrelgos_step(struct nadrelgos_coordinator *coordinator, struct nadrel
                         size_t received_count, uint8_t *out, size_t out_count);
 
 /*
- * One node record listed, cleared or marked, for tools and tests. A firmware has no need of them: boards are listed by
- * joins and cleared by quiets, and what is promised of the list is promised of records that only setup and the steps
- * have written.
+ * One node record listed, cleared or marked, for tools and tests, and for indexes to be counted (RECORDS THAT THE HOST
+ * MAKES). Else a firmware has no need of them: boards are listed by joins and cleared by quiets, and what is promised
+ * of the list is promised of records that only setup and the steps have written.
  *
  *   nodes, nodes_count     the node records and their count, 40
- *   position               1 to 40. Any other names nobody, and nothing is changed
+ *   position               1 to 40. Any other names nobody: no record is listed, cleared or marked
  *
- * Whether the records are fit afterwards is not tested here: the next step tests it, and refuses 22 where they are not,
- * as with a MAC that is listed twice or a board cleared that a wait names.
+ * List and clear count the index of every one of the forty records, whatever stood there, also where the position names
+ * nobody; mark changes none. Whether the records are fit afterwards is not tested here: the next step tests it, and
+ * refuses 22 where they are not, as with a MAC that is listed twice or a board cleared that a wait names.
  *
  * Each answers NADRELGOS_REST and all else 0, or refuses 22 where nodes_count is not 40.
  */
@@ -390,7 +402,8 @@ static inline size_t nadrelgos_written(uint64_t answer) { return (size_t)(answer
  * A board has joined by other means than a discovery, as where the host has set its address itself. It is told as a
  * finished fact. A new MAC gets the lowest free position; a listed one keeps its position, has its type and its
  * session replaced and its misses cleared: lists, indexes and routes follow the new type at once. The list is then
- * owed to every board. Refused 22, 12 to 16.
+ * owed to every board. Indexes are right in every record afterwards, also in those of boards that were not named.
+ * Refused 22, 12 to 16.
  */
 static inline uint64_t nadrelgos_join(struct nadrelgos_coordinator *coordinator, struct nadrelgos_node *nodes,
                                       uint8_t kind, uint64_t mac, uint64_t session) {
@@ -437,8 +450,9 @@ static inline uint64_t nadrelgos_frame(struct nadrelgos_coordinator *coordinator
 
 /*
  * The time for the reply has passed and the wait is still on: the board has one miss more, and the third in a row drops
- * it. Where the ACK to a forward has come and its response has not, there is no miss, nor is there one in search,
- * identify and assign. The wait is over either way; after identify without an ACK Set Address is due. Refused 22, 20.
+ * it: its record is then all zeros, and each board of its type above it has an index one lower. Where the ACK to a
+ * forward has come and its response has not, there is no miss, nor is there one in search, identify and assign. The
+ * wait is over either way; after identify without an ACK Set Address is due. Refused 22, 20.
  */
 static inline uint64_t nadrelgos_quiet(struct nadrelgos_coordinator *coordinator, struct nadrelgos_node *nodes) {
     const uint8_t no_bytes = 0;
@@ -462,6 +476,7 @@ NADRELGOS_LAID_OUT(offsetof(struct nadrelgos_node, mac) == 8);
 NADRELGOS_LAID_OUT(offsetof(struct nadrelgos_node, session) == 16);
 NADRELGOS_LAID_OUT(offsetof(struct nadrelgos_node, misses) == 24);
 NADRELGOS_LAID_OUT(offsetof(struct nadrelgos_node, owed) == 25);
+NADRELGOS_LAID_OUT(offsetof(struct nadrelgos_node, index) == 26);
 
 NADRELGOS_LAID_OUT(sizeof(struct nadrelgos_settings) == 72);
 NADRELGOS_LAID_OUT(offsetof(struct nadrelgos_settings, pool) == 0);

@@ -31,7 +31,7 @@ static bool astray; /* something came out otherwise than this program means it t
 static _Alignas(64) uint8_t stack[STACK];
 
 /* what is called: a step by its event's number, or one of these */
-enum { SETUP = 0, MARK = 6, FIND = 7, CALLS = 8, NOTHING = 255 };
+enum { SETUP = 0, MARK = 6, CLEAR = 7, FIND = 8, CALLS = 9, NOTHING = 255 };
 
 struct call {
     uint8_t event;
@@ -53,6 +53,9 @@ static void make(struct call *call) {
         break;
     case MARK:
         call->answer = nadrelgos_mark(nodes, NADRELGOS_NODES, NADRELGOS_NODES);
+        break;
+    case CLEAR:
+        call->answer = nadrelgos_clear(nodes, NADRELGOS_NODES, NADRELGOS_NODES);
         break;
     case FIND: find(); break;
     default:
@@ -219,6 +222,7 @@ int main(void) {
     }
     if (nodes[0].kind != 0) astray = true;
     measure(MARK, 0, 0);
+    measure(CLEAR, 0, 0);
     memset(capture, LONGEST, sizeof capture);
     measure(FIND, 0, 0);
     if (astray) {
@@ -227,9 +231,10 @@ int main(void) {
     }
 
     printf("stack of one call, in bytes, over %u calls on a full table (%u refused):\n", calls, refused);
-    printf("  setup %u, join %u, turn %u, frame %u, quiet %u, discover %u, mark %u, find %u\n", (unsigned)deepest[SETUP],
-           (unsigned)deepest[NADRELGOS_EVENT_JOIN], (unsigned)deepest[NADRELGOS_EVENT_TURN],
+    printf("  setup %u, join %u, turn %u, frame %u, quiet %u, discover %u, mark %u, clear %u, find %u\n",
+           (unsigned)deepest[SETUP], (unsigned)deepest[NADRELGOS_EVENT_JOIN], (unsigned)deepest[NADRELGOS_EVENT_TURN],
            (unsigned)deepest[NADRELGOS_EVENT_FRAME], (unsigned)deepest[NADRELGOS_EVENT_QUIET],
-           (unsigned)deepest[NADRELGOS_EVENT_DISCOVER], (unsigned)deepest[MARK], (unsigned)deepest[FIND]);
+           (unsigned)deepest[NADRELGOS_EVENT_DISCOVER], (unsigned)deepest[MARK], (unsigned)deepest[CLEAR],
+           (unsigned)deepest[FIND]);
     return 0;
 }

@@ -73,21 +73,14 @@ static void put_exchange(struct page *page, const struct screen *screen) {
 
 /* ---- the table */
 
-/* The number of lower listed positions of the same type. */
-static unsigned index_of(const struct panel *panel, unsigned position) {
-    unsigned index = 0;
-    for (unsigned p = 1; p < position; p++) index += panel->nodes[p - 1].kind == panel->nodes[position - 1].kind;
-    return index;
-}
-
 static void put_board(struct page *page, const struct screen *screen, unsigned position) {
     static const char *const marks[] = {"-", "x", "xx", "xxx"};
     const struct nadrelgos_node *node = &screen->panel->nodes[position - 1];
     char kind[32];
     snprintf(kind, sizeof kind, "%s (%u)", words_kind(node->kind), node->kind);
     put(page, "%3u %4u  %-20s %5u  %016llx  %-6s  %-4s  %s", position, words_address(screen->panel, position), kind,
-        index_of(screen->panel, position), (unsigned long long)node->session, marks[node->misses & 3],
-        node->owed ? "owed" : "-", ago(screen, screen->heard[position - 1]));
+        node->index, (unsigned long long)node->session, marks[node->misses & 3], node->owed ? "owed" : "-",
+        ago(screen, screen->heard[position - 1]));
 }
 
 static void put_table(struct page *page, const struct screen *screen) {

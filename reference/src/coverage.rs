@@ -3,6 +3,7 @@
 
 mod cases;
 mod discoveries;
+mod indexes;
 mod required;
 mod retypings;
 
@@ -13,6 +14,7 @@ use crate::line::{Kind, Line};
 use crate::panel::Panel;
 use crate::state::Phase;
 use cases::head;
+use indexes::Indexes;
 use retypings::Retypings;
 
 #[derive(Clone, Debug, Default)]
@@ -25,6 +27,7 @@ pub struct Coverage {
     /// The wait in which a frame was refused for want of room.
     short: Option<Phase>,
     retypings: Retypings,
+    indexes: Indexes,
     lines: u64,
     steps: u64,
     bytes: u64,
@@ -55,6 +58,9 @@ impl Coverage {
             self.disturbances.count(cases::disturbance(before, line, &head));
         }
         for case in self.retypings.note(before, &line.text, &head, after) {
+            self.cases.count(case);
+        }
+        for case in self.indexes.note(before, answer, &head, after) {
             self.cases.count(case);
         }
         self.note_returns(before, &line.text, &head, after);

@@ -24,6 +24,8 @@ use std::collections::BTreeMap;
 const OPENING: usize = 24;
 /// Of a hundred lines, so many for each of the pool sizes.
 const SHARES: [usize; 7] = [11, 25, 6, 15, 9, 19, 15];
+/// Of a hundred joins and drops, so many have a table behind them.
+const SHOWN: usize = 80;
 
 /// How much goes wrong.
 #[derive(Clone, Copy, PartialEq, Eq)]
@@ -40,6 +42,8 @@ pub struct Generator<'a> {
     away: Vec<(u8, u64)>,
     mode: Mode,
     late: Option<Vec<u8>>,
+    /// The last line let a board come or go.
+    moved: bool,
     left: usize,
     coverage: Coverage,
     sink: &'a mut dyn FnMut(&str),
@@ -54,6 +58,7 @@ pub fn generate(seed: u64, count: usize, sink: &mut dyn FnMut(&str)) -> Coverage
         away: Vec::new(),
         mode: Mode::Calm,
         late: None,
+        moved: false,
         left: 0,
         coverage: Coverage::default(),
         sink,
@@ -95,6 +100,8 @@ impl Generator<'_> {
         let before = self.player.panel.clone();
         let answer = self.player.play(line.text.as_bytes());
         self.coverage.note(&before, &line, answer.as_deref(), &self.player.panel);
+        self.moved =
+            answer.map_or(false, |text| text.contains("joined") || text.contains("dropped"));
         self.remember_dropped(&before);
         (self.sink)(&line.text);
     }
@@ -186,7 +193,11 @@ impl Generator<'_> {
         (!listed.is_empty()).then(|| self.rng.pick(&listed))
     }
 
+    /// Who comes or goes moves the indexes of others (C-13), which a table shows.
     fn next_line(&mut self) -> Line {
+        if self.moved && self.rng.chance(SHOWN) {
+            return Line::plain("table");
+        }
         if self.rng.chance(3) {
             return self.oddity();
         }

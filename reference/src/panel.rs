@@ -1,8 +1,9 @@
 //! The coordinator's steps: join, discover, turn, frame and quiet, and the
 //! setup that makes a fresh start (01, "Steps"; C-11). What a discovery does in
-//! them stands in a file of its own.
+//! them, and how a board comes and goes, stand in files of their own.
 
 mod discovery;
+mod listing;
 
 pub use discovery::{
     ADDRESS_LENGTH, DISCOVERED_LENGTH, IDENTIFIED_LENGTH, TYPE_ADDRESS, TYPE_ADDRESSED,
@@ -147,8 +148,7 @@ impl Panel {
     /// listed board only MAC and address stay (C-12). The list is owed to all,
     /// and further joins are held.
     fn admit(&mut self, position: usize, board: &Identity) {
-        let Identity { node_type, mac, session } = *board;
-        *self.record_mut(position) = Record { node_type, mac, session, misses: 0, owed: true };
+        listing::list(&mut self.records, position, board);
         self.owe_to_all();
         self.coordinator.held = true;
     }
@@ -185,7 +185,7 @@ impl Panel {
                 Ok((*to, Exchange::Return, written))
             }
             Phase::ForwardDue { to, requester, request } => {
-                let index = self.index(*requester);
+                let index = self.record(*requester).index;
                 let written = frame::write(&self.passed_on(*to, index, request), out)?;
                 let (requester, request_type) = (*requester, request.message_type);
                 let exchange = Exchange::Forward { requester, request_type, acked: false };
@@ -379,7 +379,7 @@ impl Panel {
             self.record_mut(board).misses += 1;
             return 0;
         }
-        *self.record_mut(board) = Record::default();
+        listing::clear(&mut self.records, board);
         self.owe_to_all();
         if self.listed().next().is_none() {
             self.coordinator.held = false;
@@ -420,16 +420,6 @@ impl Panel {
         self.listed().find(|&position| self.record(position).mac == mac)
     }
 
-    /// A board's index: the number of lower listed positions of its type; 0
-    /// where nobody is listed.
-    pub fn index(&self, position: usize) -> u8 {
-        let kind = self.record(position).node_type;
-        if kind == 0 {
-            return 0;
-        }
-        self.records[..position - 1].iter().filter(|record| record.node_type == kind).count() as u8
-    }
-
     /// Node list payload: the internal type, then the types (0 if free) up to
     /// the highest listed position (01, house).
     pub fn node_list(&self) -> Vec<u8> {
@@ -454,7 +444,8 @@ impl Panel {
         payload
     }
 
-    /// Own frames: method 0, parameter 1 0, parameter 2 the board's index.
+    /// Own frames: method 0, parameter 1 0, parameter 2 the index on record,
+    /// which is 0 where nobody is listed.
     fn own<'a>(&self, board: usize, message_type: u8, packet: u8, payload: &'a [u8]) -> Frame<'a> {
         Frame {
             destination: self.address(board),
@@ -462,7 +453,7 @@ impl Panel {
             subnet: self.coordinator.subnet,
             method: 0,
             parameter1: 0,
-            parameter2: self.index(board),
+            parameter2: self.record(board).index,
             node_type: COORDINATOR_TYPE,
             message_type,
             packet,

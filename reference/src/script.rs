@@ -77,8 +77,10 @@ impl Player {
             let record = self.panel.record(position);
             let address = self.panel.address(position);
             let (kind, mac, session) = (record.node_type, record.mac, record.session);
-            let (misses, owed) = (record.misses, u8::from(record.owed));
-            let row = format!("\n{position} {address} {kind} {mac} {session} {misses} {owed}");
+            let (misses, owed, index) = (record.misses, u8::from(record.owed), record.index);
+            let row =
+                format!("{position} {address} {kind} {mac} {session} {misses} {owed} {index}");
+            text.push('\n');
             text.push_str(&row);
         }
         text
@@ -232,9 +234,19 @@ mod tests {
             "wait 1 offer 29 02FF03000000A5008011000100000000000000020000000000000021F4",
             "rest",
             "listed 1",
-            "1 2 2 7 8 2 0",
+            "1 2 2 7 8 2 0 0",
         ];
         assert_eq!(answers(script), expected);
+    }
+
+    /// Two boards of a type; the first then misses for the third time.
+    #[test]
+    fn a_table_has_the_index_as_its_last_column() {
+        let script = "setup 3 1 1 2 2 5 9\njoin 2 7 8\nturn 64\nquiet\nturn 64\nquiet\n\
+                      join 2 9 8\ntable\nturn 64\nquiet\ntable\n";
+        let answers = answers(script);
+        assert_eq!(answers[7..10], ["listed 2", "1 2 2 7 8 2 1 0", "2 5 2 9 8 0 1 1"]);
+        assert_eq!(answers[11..], ["rest dropped 1", "listed 1", "2 5 2 9 8 0 1 0"]);
     }
 
     #[test]

@@ -16,6 +16,8 @@ pub struct Record {
     pub session: u64,
     pub misses: u8,
     pub owed: bool,
+    /// The number of lower listed positions of its type (C-13).
+    pub index: u8,
 }
 
 impl Record {
@@ -181,10 +183,20 @@ fn macs_differ(records: &[Record]) -> bool {
     (1..listed.len()).all(|i| !listed[..i].contains(&listed[i]))
 }
 
+/// C-13: the index stored is the one counted, for every board; that of a free
+/// record is among its zeros.
+fn indexes_fit(records: &[Record]) -> bool {
+    records.iter().enumerate().filter(|(_, record)| record.listed()).all(|(place, record)| {
+        let lower = records[..place].iter().filter(|other| other.node_type == record.node_type);
+        lower.count() == usize::from(record.index)
+    })
+}
+
 fn records_fit(records: &[Record], k: usize) -> bool {
     let forty = records.len() == RECORDS;
     let past_free = records.iter().skip(k).all(|record| !record.listed());
-    forty && past_free && records.iter().all(record_fits) && macs_differ(records)
+    let each_fits = records.iter().all(record_fits);
+    forty && past_free && each_fits && macs_differ(records) && indexes_fit(records)
 }
 
 fn is_listed(records: &[Record], position: usize) -> bool {
@@ -253,7 +265,7 @@ mod tests {
     use super::*;
 
     fn board(node_type: u8, mac: u64) -> Record {
-        Record { node_type, mac, session: 1, misses: 0, owed: false }
+        Record { node_type, mac, session: 1, ..Record::default() }
     }
 
     fn sample() -> (Vec<Record>, Coordinator) {
@@ -290,6 +302,19 @@ mod tests {
         assert!(!fit_after(|r, _| r[0].misses = 3));
         assert!(!fit_after(|r, _| r[1].owed = true));
         assert!(!fit_after(|r, _| r[3] = board(4, 11)));
+    }
+
+    #[test]
+    fn indexes_other_than_the_count_are_unfit() {
+        for index in 0..=255 {
+            for place in 0..RECORDS {
+                assert_eq!(fit_after(|r, _| r[place].index = index), index == 0);
+            }
+            // of the first board's type, and of that of the board above it
+            let (twin, other) = (board(2, 9), board(5, 9));
+            assert_eq!(fit_after(|r, _| r[1] = Record { index, ..twin }), index == 1);
+            assert!(!fit_after(|r, _| r[1] = Record { index, ..other }));
+        }
     }
 
     #[test]

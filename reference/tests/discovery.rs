@@ -285,10 +285,11 @@ fn found_re_jumpered(message_type: u8) -> Panel {
 fn a_furnace_is_found_again_as_an_air_handler() {
     let before = with(&[THERMOSTAT, FURNACE, AIR_HANDLER]);
     assert_eq!((goes_to(&before, 1, 2, 2), goes_to(&before, 1, 2, 3)), (Some(2), Some(3)));
-    assert_eq!(before.index(3), 0);
+    assert_eq!(before.record(3).index, 0);
     for message_type in [0xFA, 0xFB] {
         let mut panel = found_re_jumpered(message_type);
         assert_eq!(panel, after_join(&before, &RE_JUMPERED));
+        assert_eq!(panel.record(3).index, 1);
         assert_eq!((goes_to(&panel, 1, 2, 2), goes_to(&panel, 1, 2, 3)), (None, Some(2)));
         for (board, index) in [(1, 0), (2, 0), (3, 1)] {
             let (named, exchange, list) = turn(&mut panel);
@@ -341,6 +342,102 @@ fn a_board_that_is_found_and_does_not_join_keeps_its_type() {
     let other = Identity { node_type: 9, ..FIRST };
     assert_eq!(give(&mut panel, 5, 0xFB, &identified(&other)), transmit(29));
     assert_eq!(panel, after_nothing(&before));
+}
+
+// ---- the indexes that a discovery leaves (C-13) -------------------------
+
+fn indexes(panel: &Panel) -> [u8; 4] {
+    [0, 1, 2, 3].map(|place| panel.records[place].index)
+}
+
+/// Three furnaces, the first of which is dropped.
+fn first_gone() -> Panel {
+    let mut panel = with(&[FIRST, SECOND, Identity { node_type: 2, ..NEW }]);
+    panel.records[0].misses = 2;
+    turn(&mut panel);
+    assert_eq!(panel.quiet().unwrap().dropped, 1);
+    panel.records.iter_mut().for_each(|record| record.owed = false);
+    assert_eq!(indexes(&panel), [0, 0, 1, 0]);
+    panel
+}
+
+/// Ends the exchange for the board at stake with the response of this type;
+/// gives parameter 2 of the ACK.
+fn end_well(panel: &mut Panel, message_type: u8, board: &Identity, at: usize) -> u8 {
+    let address = POOL[at - 1];
+    let payload = match message_type {
+        0xFA => {
+            assert_eq!(assign(panel, board), at);
+            addressed(address, board)
+        }
+        _ => {
+            assert_eq!(identify(panel, board), at);
+            identified(board)
+        }
+    };
+    let mut out = [0; 29];
+    assert_eq!(panel.frame(&bytes(address, message_type, &payload), &mut out), joined(at));
+    out[5]
+}
+
+#[test]
+fn a_board_that_is_found_raises_those_of_its_type_above_it() {
+    for message_type in [0xFA, 0xFB] {
+        for (node_type, after) in [(2, [0, 1, 2, 0]), (5, [0, 0, 1, 0])] {
+            let mut panel = first_gone();
+            let found = Identity { node_type, mac: 900, session: 9 };
+            assert_eq!(end_well(&mut panel, message_type, &found, 1), 0);
+            assert_eq!(indexes(&panel), after);
+        }
+    }
+}
+
+#[test]
+fn a_board_that_is_found_again_moves_others_by_its_type() {
+    for message_type in [0xFA, 0xFB] {
+        let mut panel = with(&[AIR_HANDLER, FIRST, SECOND]);
+        assert_eq!(indexes(&panel), [0, 0, 1, 0]);
+        let retyped = Identity { node_type: 3, ..FIRST };
+        for (found, index, after) in [(FIRST, 0, [0, 0, 1, 0]), (retyped, 1, [0, 1, 0, 0])] {
+            assert_eq!(end_well(&mut panel, message_type, &found, 2), index);
+            assert_eq!(indexes(&panel), after);
+            panel.records.iter_mut().for_each(|record| record.owed = false);
+            panel.coordinator.held = false;
+            panel.coordinator.started = false;
+        }
+        // and back again
+        assert_eq!(end_well(&mut panel, message_type, &FIRST, 2), 0);
+        assert_eq!(indexes(&panel), [0, 0, 1, 0]);
+    }
+}
+
+#[test]
+fn get_node_id_to_a_freed_position_carries_0() {
+    let mut panel = with(&[FIRST, SECOND]);
+    panel.records[1].misses = 2;
+    panel.coordinator.last_offered = 1;
+    turn(&mut panel);
+    assert_eq!(panel.quiet().unwrap().dropped, 2);
+    panel.records[0].owed = false;
+    assert_eq!(find(&mut panel, &Identity { node_type: 2, ..NEW }), rest());
+    assert_eq!(turn(&mut panel).2[..8], [5, 255, 3, 0, 0, 0, 165, 0x7B]);
+}
+
+#[test]
+fn another_index_is_refused_by_22_in_every_stage() {
+    for mut panel in stages(&two()) {
+        for (place, wrong) in [(0, 1), (1, 0), (1, 2), (2, 1), (39, 1)] {
+            let right = panel.records[place].index;
+            panel.records[place].index = wrong;
+            let response = bytes(9, 0xFB, &identified(&NEW));
+            refused_frame(&mut panel, Refusal::StateUnfit, &response);
+            refused(&mut panel, Refusal::StateUnfit, |panel, _| panel.join(0, 0, 0));
+            refused(&mut panel, Refusal::StateUnfit, |panel, out| panel.discover(out));
+            refused(&mut panel, Refusal::StateUnfit, |panel, out| panel.turn(out));
+            refused(&mut panel, Refusal::StateUnfit, |panel, _| panel.quiet());
+            panel.records[place].index = right;
+        }
+    }
 }
 
 // ---- every way it breaks off ------------------------------------------

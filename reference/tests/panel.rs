@@ -1,6 +1,6 @@
 //! The rule book's printed series, each refusal number that a step gives, the
-//! errors that look reasonable (01), and boards that come back as something else
-//! (C-12).
+//! errors that look reasonable (01), boards that come back as something else
+//! (C-12), and the indexes on record (C-13).
 
 mod common;
 
@@ -159,7 +159,7 @@ fn lists_go_to_the_lowest_owed_with_packet_number_0() {
         assert_eq!((named, exchange), (board, Exchange::List));
         let list = frame::read(&bytes).unwrap();
         assert_eq!((list.message_type, list.packet), (0x14, 0));
-        assert_eq!(list.parameter2, panel.index(board));
+        assert_eq!(list.parameter2, [0, 0, 1][board - 1]);
         assert_eq!(list.payload, [1, 2, 5, 5]);
         assert!(!panel.record(board).owed);
         assert_eq!(answer(&mut panel), transmit(29));
@@ -287,7 +287,8 @@ fn a_board_that_comes_back_keeps_its_address_and_has_the_type_it_joins_with() {
         let mut panel = with_boards(&[2, 5, 9], &[2, 5]);
         panel.records[1].misses = 2;
         assert_eq!(panel.join(node_type, 2, 4711).unwrap().joined, 2);
-        let record = Record { node_type, mac: 2, session: 4711, misses: 0, owed: true };
+        let (mac, session, owed) = (2, 4711, true);
+        let record = Record { node_type, mac, session, owed, ..Record::default() };
         assert_eq!(panel.record(2), &record);
         assert!(panel.record(1).owed && panel.coordinator.held);
     }
@@ -354,15 +355,6 @@ fn requests_by_type_go_where_the_new_types_are() {
 }
 
 #[test]
-fn a_retyping_moves_the_indexes_above_it_alone() {
-    let indexes = |panel: &Panel| [1, 2, 3, 4, 5].map(|position| panel.index(position));
-    let mut panel = with_boards(&[2, 5, 9, 10, 11], &[3, 2, 2, 3, 2]);
-    assert_eq!(indexes(&panel), [0, 0, 1, 1, 2]);
-    panel.join(3, 2, 102).unwrap();
-    assert_eq!(indexes(&panel), [0, 1, 0, 2, 1]);
-}
-
-#[test]
 fn types_0_and_165_retype_no_listed_board() {
     for node_type in [0, 165] {
         let mut panel = with_boards(&[2, 5, 9], &[2, 1, 3]);
@@ -370,6 +362,130 @@ fn types_0_and_165_retype_no_listed_board() {
         assert_eq!(panel.join(3, 1, 7).unwrap().joined, 1);
         // 12 is told before 14 and 15
         refused(&mut panel, Refusal::BadType, |panel, _| panel.join(node_type, 1, 7));
+    }
+}
+
+// ---- the index on record (C-13) -----------------------------------------
+
+const FIVE: [u8; 5] = [2, 5, 9, 10, 11];
+
+fn indexes(panel: &Panel) -> [u8; 5] {
+    [0, 1, 2, 3, 4].map(|place| panel.records[place].index)
+}
+
+/// The board at this position misses an offer for the third time.
+fn drop_board(panel: &mut Panel, position: usize) {
+    panel.records[position - 1].misses = 2;
+    panel.coordinator.last_offered = position - 1;
+    assert_eq!(turn(panel).0, position);
+    assert_eq!(panel.quiet().unwrap().dropped, position);
+}
+
+/// As if the lists were out and an offer was made.
+fn unowed(panel: &mut Panel) {
+    panel.records.iter_mut().for_each(|record| record.owed = false);
+    panel.coordinator.held = false;
+}
+
+#[test]
+fn a_join_raises_those_of_its_type_above_it_and_nobody_below() {
+    let mut panel = with_boards(&FIVE, &[2, 5, 2, 5, 2]);
+    drop_board(&mut panel, 2);
+    assert_eq!(indexes(&panel), [0, 0, 1, 0, 2]);
+    for (node_type, after) in [(2, [0, 1, 2, 0, 3]), (5, [0, 0, 1, 1, 2]), (9, [0, 0, 1, 0, 2])] {
+        let mut panel = panel.clone();
+        unowed(&mut panel);
+        assert_eq!(panel.join(node_type, 50, 1).unwrap().joined, 2);
+        assert_eq!(indexes(&panel), after);
+    }
+}
+
+#[test]
+fn a_join_as_it_was_moves_nobody() {
+    let mut panel = with_boards(&FIVE, &[2, 2, 5, 2, 5]);
+    for mac in 1..=5 {
+        unowed(&mut panel);
+        panel.join(panel.records[mac - 1].node_type, mac as u64, 7).unwrap();
+        assert_eq!(indexes(&panel), [0, 1, 0, 2, 1]);
+    }
+}
+
+#[test]
+fn a_retyping_moves_the_indexes_above_it_alone() {
+    let mut panel = with_boards(&FIVE, &[3, 2, 2, 3, 2]);
+    assert_eq!(indexes(&panel), [0, 0, 1, 1, 2]);
+    panel.join(3, 2, 102).unwrap();
+    assert_eq!(indexes(&panel), [0, 1, 0, 2, 1]);
+    unowed(&mut panel);
+    panel.join(2, 2, 102).unwrap();
+    assert_eq!(indexes(&panel), [0, 0, 1, 1, 2]);
+}
+
+#[test]
+fn a_drop_lowers_those_of_its_type_above_it_and_leaves_0() {
+    let before = with_boards(&FIVE, &[2, 2, 5, 2, 5]);
+    let after =
+        [[0, 0, 0, 1, 1], [0, 0, 0, 1, 1], [0, 1, 0, 2, 0], [0, 1, 0, 0, 1], [0, 1, 0, 2, 0]];
+    for (position, after) in (1..).zip(after) {
+        let mut panel = before.clone();
+        drop_board(&mut panel, position);
+        assert_eq!(indexes(&panel), after);
+        assert_eq!(panel.record(position), &Record::default());
+    }
+}
+
+#[test]
+fn a_setup_leaves_no_index() {
+    let mut panel = with_boards(&FIVE, &[2, 2, 2]);
+    // it clears what it does not look at
+    panel.records[1].index = 77;
+    panel.records[39].index = 77;
+    let settings = Settings { subnet: 3, internal: 1, mac: MAC, session: SESSION, pool: &FIVE };
+    assert_eq!(panel.setup(&settings), Ok(5));
+    assert_eq!(panel.records, Panel::default().records);
+}
+
+/// At rest, in a wait, in that of a forward, and with a forward due.
+fn in_phases() -> [Panel; 4] {
+    let at_rest = with_boards(&FIVE, &[2, 5, 2, 5]);
+    let mut offered = at_rest.clone();
+    turn(&mut offered);
+    let mut forward_due = offered.clone();
+    assert_eq!(request(&mut forward_due, 3, 3, 3), transmit(29));
+    let mut forwarded = forward_due.clone();
+    turn(&mut forwarded);
+    [at_rest, offered, forwarded, forward_due]
+}
+
+#[test]
+fn every_step_refuses_another_index_by_22() {
+    for mut panel in in_phases() {
+        let good = bytes_of(&Frame { destination: 255, source: 2, ..Frame::default() });
+        for place in 0..40 {
+            let right = panel.records[place].index;
+            for wrong in (0..=255).filter(|&index| index != right) {
+                panel.records[place].index = wrong;
+                refused(&mut panel, Refusal::StateUnfit, |panel, _| panel.join(2, 50, 0));
+                refused(&mut panel, Refusal::StateUnfit, |panel, out| panel.discover(out));
+                refused(&mut panel, Refusal::StateUnfit, |panel, out| panel.turn(out));
+                refused(&mut panel, Refusal::StateUnfit, |panel, out| panel.frame(&good, out));
+                refused(&mut panel, Refusal::StateUnfit, |panel, _| panel.quiet());
+            }
+            panel.records[place].index = right;
+        }
+        assert_ne!(panel.quiet(), Err(Refusal::StateUnfit));
+    }
+}
+
+/// Exchanged, all too high, all the same, or with a gap.
+#[test]
+fn indexes_that_are_wrong_together_are_refused_by_22() {
+    for wrong in [[1, 0, 2], [0, 2, 1], [1, 2, 3], [0, 0, 0], [0, 0, 1], [0, 1, 3]] {
+        let mut panel = with_boards(&FIVE, &[2, 2, 2]);
+        for (record, index) in panel.records.iter_mut().zip(wrong) {
+            record.index = index;
+        }
+        refused(&mut panel, Refusal::StateUnfit, |panel, out| panel.turn(out));
     }
 }
 
@@ -502,9 +618,10 @@ fn joins_are_refused_by_12_to_16() {
 fn the_address_taken_for_a_new_mac_is_in_no_listed_record() {
     for listed in 0..31 {
         let mut panel = ready(&[2, 5, 9, 16, 254]);
-        for place in (0..5).filter(|place| listed >> place & 1 == 1) {
+        for (index, place) in (0..).zip((0..5).filter(|place| listed >> place & 1 == 1)) {
             panel.records[place].node_type = 2;
             panel.records[place].mac = 1 + place as u64;
+            panel.records[place].index = index;
         }
         let others: Vec<u8> = panel.listed().map(|at| panel.address(at)).collect();
         let joined = panel.join(2, 9, 0).unwrap().joined;

@@ -1,5 +1,5 @@
-//! Demand 3 and what C-11 and C-12 add to it, watched from outside: the model
-//! below sees only the lines of a generated script and their answers.
+//! Demand 3 and what C-11, C-12 and C-13 add to it, watched from outside: the
+//! model below sees only the lines of a generated script and their answers.
 
 use reference::generator;
 use reference::routing;
@@ -26,8 +26,9 @@ struct Watch {
     internal: u8,
     boards: Vec<Seen>,
     awaited: usize,
-    /// Where the request goes that was just taken.
+    /// Where the request goes that was just taken, and whose it is.
     asked: Option<usize>,
+    requester: usize,
     heard: bool,
     drops: usize,
     /// The accepted steps of the discovery that runs; 0 if none does.
@@ -46,7 +47,8 @@ impl Watch {
         let words: Vec<&str> = answer.split(['\n', ' ']).collect();
         let step = line.split(' ').next().unwrap_or("");
         match (step, &words[..]) {
-            (_, ["refuse" | "bad", ..]) | ("table", _) => return,
+            (_, ["refuse" | "bad", ..]) => return,
+            ("table", _) => return self.shown(answer),
             ("setup", ["ready", k]) => return self.start(k.parse().unwrap(), line),
             ("discover", ["wait", _, "search", ..]) => self.discovery(),
             (step, _) if self.exchange > 0 => self.in_exchange(step, line, &words),
@@ -61,6 +63,7 @@ impl Watch {
             ("quiet", ["rest"]) => self.quiet(0),
             _ => panic!("{line}: {answer}"),
         }
+        self.carries_index(&words);
         self.count_step();
     }
 
@@ -83,9 +86,35 @@ impl Watch {
         self.boards[1..].iter().map(|board| board.node_type).collect()
     }
 
+    /// The number of lower listed positions of its type, 0 where it is free.
     fn index(&self, at: usize) -> usize {
-        let types = self.types();
-        types[..at - 1].iter().filter(|&&kind| kind == types[at - 1]).count()
+        let kind = self.boards[at].node_type;
+        self.boards[..at].iter().filter(|board| board.listed && board.node_type == kind).count()
+    }
+
+    /// C-13: the index in every row of the table is the one counted.
+    fn shown(&self, table: &str) {
+        let column = |row: &str, place| word(row, place).parse::<usize>().unwrap();
+        let row = |row| (column(row, 0), column(row, 2), column(row, 7));
+        let seen = |at: usize| (at, usize::from(self.boards[at].node_type), self.index(at));
+        let listed = (1..self.boards.len()).filter(|&at| self.boards[at].listed);
+        assert!(table.lines().skip(1).map(row).eq(listed.map(seen)), "{table}");
+    }
+
+    /// C-13: a frame carries the index that the step leaves, on a forward the
+    /// requester's; 0 on a return and to all.
+    fn carries_index(&self, answer: &[&str]) {
+        let (kind, sent) = match *answer {
+            ["wait", _, kind, _, sent] => (kind, sent),
+            ["deliver" | "transmit", _, sent, ..] => ("ACK", sent),
+            _ => return,
+        };
+        let expected = match kind {
+            "return" | "search" | "assign" => 0,
+            "forward" => self.index(self.requester),
+            _ => self.index(self.awaited),
+        };
+        assert_eq!(usize::from(script::pairs(sent).unwrap()[5]), expected, "{answer:?}");
     }
 
     /// While someone is listed, one at most is started between two offers.
@@ -160,13 +189,10 @@ impl Watch {
         }
     }
 
-    /// The list, the indexes and the way of a request are by the types that the
-    /// last joins told.
+    /// The list and the way of a request are by the types that the last joins
+    /// told.
     fn goes_by_type(&mut self, at: usize, kind: &str, bytes: &[u8]) {
         assert_eq!((kind == "forward").then_some(at), self.asked.take());
-        if ["offer", "list"].contains(&kind) {
-            assert_eq!(usize::from(bytes[5]), self.index(at));
-        }
         if kind == "list" {
             let types = self.types();
             let highest = types.iter().rposition(|&kind| kind != 0).unwrap();
@@ -183,6 +209,7 @@ impl Watch {
         if (1..=127).contains(&bytes[7]) {
             let to = routing::resolve(&self.types(), bytes[3], bytes[4]);
             self.asked = to.filter(|&to| to != self.awaited);
+            self.requester = self.awaited;
         }
     }
 
@@ -241,6 +268,8 @@ fn generated_scripts_keep_the_promise() {
             if let Some(answer) = player.play(line.as_bytes()) {
                 let before = watch.drops;
                 watch.follow(line, &answer);
+                // a table after each line, not only where the script has one
+                watch.follow("table", &player.play(b"table").unwrap());
                 drops += watch.drops.saturating_sub(before);
                 assert!(addresses_and_macs_differ(&player));
             }

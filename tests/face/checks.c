@@ -70,6 +70,17 @@ void hold_refused(uint64_t answer, uint64_t refusal, size_t count) {
     hold(answer == refusal && unchanged(count), answer);
 }
 
+uint64_t step(uint8_t event, size_t count) {
+    return nadrelgos_step(&lent.coordinator, lent.nodes, count, event, 2, 7, 1, received, sizeof received, lent.out,
+                          sizeof lent.out);
+}
+
+void hold_unfit(void) {
+    keep();
+    for (uint8_t event = NADRELGOS_EVENT_JOIN; event <= NADRELGOS_EVENT_DISCOVER; event++)
+        hold_refused(step(event, NADRELGOS_NODES), NADRELGOS_STATE_UNFIT, NADRELGOS_NODES);
+}
+
 const uint8_t pool[K] = {16, 17, 18, 19, 20};
 
 uint64_t set_up(size_t count) {
@@ -80,7 +91,7 @@ uint64_t set_up(size_t count) {
 void make_fit(uint8_t stage) {
     scatter(&lent, sizeof lent);
     set_up(NADRELGOS_NODES);
-    for (size_t i = 0; i < BOARDS; i++) lent.nodes[i] = (struct nadrelgos_node){5, 100 + i, 1, 2, 0};
+    for (size_t i = 0; i < BOARDS; i++) lent.nodes[i] = (struct nadrelgos_node){5, 100 + i, 1, 2, 0, (uint8_t)i};
     lent.coordinator.stand = (struct nadrelgos_stand){stage, stage < SEARCH ? 1 : FREE, 2};
     lent.coordinator.kept.message = stage == 7 ? 131 : 3;
     lent.coordinator.kept.method = 2;

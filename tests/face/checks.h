@@ -50,7 +50,15 @@ bool unchanged(size_t count);
 
 void hold_refused(uint64_t answer, uint64_t refusal, size_t count);
 
-/* ---- records that are fit: five addresses, boards at positions 1 to 3; all that is not lent is scattered */
+/* ---- steps */
+
+/* A step. What a join is told is good, so that it is not refused for that; out has all the room there is need of. */
+uint64_t step(uint8_t event, size_t count);
+
+/* The five steps on records that are not fit: 22, and nothing is changed. */
+void hold_unfit(void);
+
+/* ---- records that are fit: five addresses, boards of one type at positions 1 to 3; what is not lent is scattered */
 
 enum { OWN_MAC = 9, OWN_SESSION = 8, SUBNET = 3, INTERNAL = 21, BOARDS = 3, FREE = 4, K = 5 };
 

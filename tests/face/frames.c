@@ -56,11 +56,13 @@ static void hear(size_t position, uint64_t mac) {
     if (node->kind != 0 && node->mac == mac) node->misses = 0;
 }
 
-/* The board joins, listed before or not, as what it says it is; the list is owed to all, and joins are held. */
+/* The board joins, listed before or not, as what it says it is; the list is owed to all, the indexes are those of the
+   new types, and joins are held. */
 static void join(size_t position, struct nadrelgos_found who) {
-    then.nodes[position - 1] = (struct nadrelgos_node){who.kind, who.mac, who.session, 0, 1};
+    then.nodes[position - 1] = (struct nadrelgos_node){who.kind, who.mac, who.session, 0, 1, 0};
     for (size_t p = 1; p <= K; p++)
         if (then.nodes[p - 1].kind != 0) then.nodes[p - 1].owed = 1;
+    count_indexes(then.nodes);
     then.coordinator.held = 1;
 }
 
@@ -221,14 +223,19 @@ static uint64_t call(void) {
     return nadrelgos_frame(&lent.coordinator, lent.nodes, received, count, lent.out, room);
 }
 
-static void hold_as_foretold(uint64_t foretold) {
+/* What is written is an ACK to the position at stake, with the index that its record then has. */
+static bool is_ack_written(size_t stake) {
+    return wire_good(lent.out, ACK_BYTES) && lent.out[AT_PARAMETER_2] == then.nodes[stake - 1].index;
+}
+
+static void hold_as_foretold(uint64_t foretold, size_t stake) {
     keep();
     uint64_t answer = call();
     size_t written = nadrelgos_written(foretold);
     hold(answer == foretold && same_coordinator(&lent.coordinator, &then.coordinator) &&
              same_nodes(lent.nodes, then.nodes, NADRELGOS_NODES) && past_untouched(NADRELGOS_NODES) &&
              memcmp(lent.out + written, before.out + written, sizeof lent.out - written) == 0 &&
-             (written == 0 || wire_good(lent.out, written)),
+             (written == 0 || is_ack_written(stake)),
          answer);
 }
 
@@ -247,7 +254,7 @@ void frames_in_the_exchange(void) {
                 draw_frame(stage, stake);
             else
                 draw_bytes();
-            hold_as_foretold(foretell(stage, stake));
+            hold_as_foretold(foretell(stage, stake), stake);
         }
     }
     end();

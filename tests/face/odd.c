@@ -1,12 +1,13 @@
 /*
  * Odd inputs through include/nadrelgos.h: records that are not fit, any frames in the exchange by which a board joins
- * (frames.c), counts of records other than forty, event numbers that are none, a setup over whatever stood there,
- * changes and positions that are none. What each call answers and leaves is known: records that were lent are held to
- * it field by field, and all else byte by byte. The calls are the same each time. A line is printed for each check, and
- * the exit status is 1 where one fails.
+ * (frames.c), every wrong index (indexes.c), counts of records other than forty, event numbers that are none, a setup
+ * over whatever stood there, changes and positions that are none. What each call answers and leaves is known: records
+ * that were lent are held to it field by field, and all else byte by byte. The calls are the same each time. A line is
+ * printed for each check, and the exit status is 1 where one fails.
  */
 #include "checks.h"
 #include "frames.h"
+#include "indexes.h"
 
 #include <string.h>
 
@@ -17,6 +18,7 @@ static const uint64_t rest = (uint64_t)NADRELGOS_REST << 8;
 
 enum change { LIST, CLEAR, MARK };
 enum { AMENDED = 240 }; /* rounds of changes, as many of each */
+enum { COMMON = 2 };    /* the type of many boards there */
 
 static uint64_t amend(enum change change, size_t count, size_t position, uint8_t kind, uint64_t mac, uint64_t session) {
     switch (change) {
@@ -28,21 +30,9 @@ static uint64_t amend(enum change change, size_t count, size_t position, uint8_t
 
 /* ---- a step */
 
-/* A step. What a join is told is good, so that it is not refused for that; out has all the room there is need of. */
-static uint64_t step(uint8_t event, size_t count) {
-    return nadrelgos_step(&lent.coordinator, lent.nodes, count, event, 2, 7, 1, received, sizeof received, lent.out,
-                          sizeof lent.out);
-}
-
 static void hold_step_refused(uint8_t event, uint64_t refusal, size_t count) {
     keep();
     hold_refused(step(event, count), refusal, count);
-}
-
-/* The five steps on records that are not fit. */
-static void hold_unfit(void) {
-    for (uint8_t event = NADRELGOS_EVENT_JOIN; event <= NADRELGOS_EVENT_DISCOVER; event++)
-        hold_step_refused(event, NADRELGOS_STATE_UNFIT, NADRELGOS_NODES);
 }
 
 /* ---- records that are not fit: 22, and nothing is changed */
@@ -98,12 +88,16 @@ static const struct spoil anywhere[] = {
     SPOIL(nodes[2].mac, NADRELGOS_MAC_MAX + 1),
     SPOIL(nodes[2].misses, 3),
     SPOIL(nodes[2].owed, 2),
+    SPOIL(nodes[2].index, 1), /* that of position 2, whose type it has */
+    SPOIL(nodes[1].kind, 6),  /* as this type it has another index, and so has position 3 */
     SPOIL(nodes[FREE - 1].kind, 5),
     SPOIL(nodes[FREE - 1].mac, 7),
     SPOIL(nodes[FREE - 1].session, 1),
     SPOIL(nodes[FREE - 1].misses, 1),
     SPOIL(nodes[FREE - 1].owed, 1),
+    SPOIL(nodes[FREE - 1].index, 1),
     SPOIL(nodes[39].session, 1),
+    SPOIL(nodes[39].index, 36), /* how many free positions are lower */
 };
 
 /* where a board is named: stages 1 to 7 */
@@ -239,15 +233,17 @@ static void never_looks_at_the_rest(void) {
 /* ---- counts of records other than forty: 22, and nothing is changed, least of all past the count */
 
 static void hold_count_refused(size_t count) {
+    static const size_t positions[] = {1, 0, 41, SIZE_MAX};
     make_fit(0);
     keep();
     hold_refused(set_up(count), NADRELGOS_STATE_UNFIT, count);
     for (uint8_t event = 0; event <= NADRELGOS_EVENT_DISCOVER + 1; event++)
         hold_step_refused(event, NADRELGOS_STATE_UNFIT, count);
-    for (enum change change = LIST; change <= MARK; change++) {
-        keep();
-        hold_refused(amend(change, count, 1, 5, 7, 1), NADRELGOS_STATE_UNFIT, count);
-    }
+    lent.nodes[0].index = lent.nodes[39].index = 7; /* wrong ones, so that it would be seen if they were counted */
+    keep();
+    for (enum change change = LIST; change <= MARK; change++)
+        for (size_t i = 0; i < sizeof positions / sizeof *positions; i++)
+            hold_refused(amend(change, count, positions[i], 5, 7, 1), NADRELGOS_STATE_UNFIT, count);
 }
 
 static void refuses_other_counts(void) {
@@ -319,33 +315,42 @@ static void refuses_setup_over_garbage(void) {
 
 /* ---- single records listed, cleared and marked, as crates/lent/specs/Amend.antt defines it */
 
-/* The record at the position of a change. */
+/* The record at the position of a change, its index not counted yet. */
 static struct nadrelgos_node amended(struct nadrelgos_node node, enum change change, uint8_t kind, uint64_t mac,
                                      uint64_t session) {
     switch (change) {
-    case LIST: return (struct nadrelgos_node){kind, mac, session, 0, 0};
-    case CLEAR: return (struct nadrelgos_node){0, 0, 0, 0, 0};
+    case LIST: return (struct nadrelgos_node){kind, mac, session, 0, 0, 0};
+    case CLEAR: return (struct nadrelgos_node){0, 0, 0, 0, 0, 0};
     default:
         if (node.kind != 0) node.owed = 1;
         return node;
     }
 }
 
+/* A type: none, one that many have, or any. */
+static uint8_t draw_kind(void) {
+    static const uint8_t some[] = {0, 0, COMMON};
+    uint64_t drawn = draw() >> 32;
+    return drawn % 4 < sizeof some ? some[drawn % 4] : (uint8_t)(drawn >> 8);
+}
+
 /* Records of any numbers, about half of them free. */
 static void scatter_table(void) {
     scatter(&lent, sizeof lent);
-    for (size_t i = 0; i < NADRELGOS_NODES; i++)
-        if (draw() >> 63) lent.nodes[i].kind = 0;
+    for (size_t i = 0; i < NADRELGOS_NODES; i++) lent.nodes[i].kind = draw_kind();
 }
 
+/* A change, whatever the indexes were: list and clear count all of them, wherever the position is, and mark none. */
 static void hold_amended(enum change change, size_t position) {
     static struct nadrelgos_node expected[NADRELGOS_NODES];
-    uint8_t kind = (uint8_t)(draw() >> 32);
+    uint8_t kind = draw_kind();
     uint64_t mac = draw(), session = draw();
+    for (size_t i = 0; i < NADRELGOS_NODES; i++) scatter(&lent.nodes[i].index, 1);
     keep();
     memcpy(expected, lent.nodes, sizeof expected);
     if (1 <= position && position <= NADRELGOS_NODES)
         expected[position - 1] = amended(expected[position - 1], change, kind, mac, session);
+    if (change != MARK) count_indexes(expected);
     uint64_t answer = amend(change, NADRELGOS_NODES, position, kind, mac, session);
     hold(answer == rest && same_nodes(lent.nodes, expected, NADRELGOS_NODES) && others_untouched(NADRELGOS_NODES),
          answer);
@@ -385,5 +390,10 @@ int main(void) {
     refuses_setup_over_garbage();
     amends_as_defined();
     amends_nobody();
+    refuses_wrong_indexes();
+    takes_right_indexes();
+    keeps_indexes();
+    sends_indexes();
+    counts_indexes();
     return some_failed();
 }

@@ -4,13 +4,29 @@
 
 static bool same_node(const struct nadrelgos_node *one, const struct nadrelgos_node *other) {
     return one->kind == other->kind && one->mac == other->mac && one->session == other->session &&
-           one->misses == other->misses && one->owed == other->owed;
+           one->misses == other->misses && one->owed == other->owed && one->index == other->index;
 }
 
 bool same_nodes(const struct nadrelgos_node *some, const struct nadrelgos_node *others, size_t count) {
     for (size_t i = 0; i < count; i++)
         if (!same_node(&some[i], &others[i])) return false;
     return true;
+}
+
+uint8_t counted_index(const struct nadrelgos_node *nodes, size_t position) {
+    uint8_t kind = nodes[position - 1].kind, count = 0;
+    for (size_t p = 1; p < position; p++) count += kind != 0 && nodes[p - 1].kind == kind;
+    return count;
+}
+
+bool are_indexes_right(const struct nadrelgos_node *nodes) {
+    for (size_t p = 1; p <= NADRELGOS_NODES; p++)
+        if (nodes[p - 1].index != counted_index(nodes, p)) return false;
+    return true;
+}
+
+void count_indexes(struct nadrelgos_node *nodes) {
+    for (size_t p = 1; p <= NADRELGOS_NODES; p++) nodes[p - 1].index = counted_index(nodes, p);
 }
 
 static bool same_settings(const struct nadrelgos_settings *one, const struct nadrelgos_settings *other) {

@@ -8,6 +8,13 @@
 
 bool same_nodes(const struct nadrelgos_node *some, const struct nadrelgos_node *others, size_t count);
 
+/* The index that the record at a position must have: the number of lower listed positions of its type; 0 where free. */
+uint8_t counted_index(const struct nadrelgos_node *nodes, size_t position);
+
+/* Whether each of the forty records has it; and gives it to each. */
+bool are_indexes_right(const struct nadrelgos_node *nodes);
+void count_indexes(struct nadrelgos_node *nodes);
+
 bool same_kept(const struct nadrelgos_kept *one, const struct nadrelgos_kept *other);
 
 bool same_found(const struct nadrelgos_found *one, const struct nadrelgos_found *other);

@@ -3,7 +3,8 @@
  * docs/REPLAY.md has the words. Beside that it holds every call to what the header says of it:
  *   - a refusal has no other part, and changed no field of the records and no byte of out;
  *   - an accepted answer has the parts that its number allows, and none besides;
- *   - the bytes of out past what was written are as they were, those past its end too.
+ *   - the bytes of out past what was written are as they were, those past its end too;
+ *   - after an accepted call every record has the index that is counted, those included that the call does not name.
  * What does not hold is told on standard error, with the line of the script, and the exit status is then 1. The last
  * line there counts the calls and the refusals.
  */
@@ -67,6 +68,7 @@ static void hold_refused(uint64_t answer) {
 static void hold_accepted(uint64_t answer, size_t room) {
     size_t written = nadrelgos_written(answer);
     hold(parts_fit(answer), "the parts of the answer do not go together");
+    hold(are_indexes_right(lent.nodes), "a record has another index than the one that is counted");
     hold(written <= room && written <= NADRELGOS_ROOM, "more was written than there is room for");
     if (written > room) return;
     hold(memcmp(lent.out + written, before.out + written, sizeof lent.out - written) == 0,
@@ -275,8 +277,8 @@ static bool play_quiet(struct line *line) {
 
 static void write_record(size_t position) {
     const struct nadrelgos_node *node = &lent.nodes[position - 1];
-    printf("%zu %u %u %llu %llu %u %u\n", position, lent.coordinator.setup.pool[position - 1], node->kind,
-           (unsigned long long)node->mac, (unsigned long long)node->session, node->misses, node->owed);
+    printf("%zu %u %u %llu %llu %u %u %u\n", position, lent.coordinator.setup.pool[position - 1], node->kind,
+           (unsigned long long)node->mac, (unsigned long long)node->session, node->misses, node->owed, node->index);
 }
 
 static bool play_table(struct line *line) {

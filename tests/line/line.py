@@ -204,10 +204,10 @@ def full_disk_stops_only_the_capture():
     check(len(panel.events("capture")) == 1, "the end of the capture is told more than once")
 
 
-def read_until(reader, last, seconds=20):
-    """Reads until this has come, or the end."""
+def read_until(reader, lasts=(), seconds=20):
+    """Reads until all of these have come, or the end."""
     text, end = "", time.monotonic() + seconds
-    while not (last and last in text) and select.select([reader], [], [], max(0, end - time.monotonic()))[0]:
+    while not (lasts and all(last in text for last in lasts)) and select.select([reader], [], [], max(0, end - time.monotonic()))[0]:
         try:
             piece = os.read(reader, 65536).decode()
         except OSError:  # what a terminal gives when its other end is closed
@@ -218,8 +218,8 @@ def read_until(reader, last, seconds=20):
     return text
 
 
-def shown(boards, is_screen, last):
-    """What the panel shows without --json, on a terminal of 30 rows or not on one, until it has shown this and is stopped."""
+def shown(boards, is_screen, *lasts):
+    """What the panel shows without --json, on a terminal of 30 rows or not on one, until it has shown all of these and is stopped."""
     boards.order("power off all")
     boards.order("power on all")
     reader, writer = os.openpty() if is_screen else os.pipe()
@@ -228,10 +228,10 @@ def shown(boards, is_screen, last):
     panel = subprocess.Popen(command_of(out, "panel") + [link, "--faster", str(FASTER), *SILENCE], stdin=subprocess.DEVNULL, stdout=writer)
     os.close(writer)
     try:
-        text = read_until(reader, last)
+        text = read_until(reader, lasts)
         panel.terminate()
-        text += read_until(reader, None)
-        check(panel.wait(20) == 0 and last in text, f"the panel did not show '{last}': {text[-1000:]}")
+        text += read_until(reader)
+        check(panel.wait(20) == 0 and all(last in text for last in lasts), f"the panel did not show all of {lasts}: {text[-1000:]}")
     finally:
         panel.kill()
         os.close(reader)
@@ -239,8 +239,10 @@ def shown(boards, is_screen, last):
 
 
 def shows_what_happens(boards):
-    """A screen with a row for each board, and the terminal as it was afterwards; not on a terminal, a line for each event."""
-    screen = shown(boards, True, "listed: heat pump")
+    """A screen with a row for each board, which has its index, and the terminal as it was afterwards; not on a terminal, a line for each event."""
+    boards.order("plug second 2 1A2B00000303")
+    furnaces = [f"{'furnace (2)':20} {index:5}  " for index in range(2)]
+    screen = shown(boards, True, "listed: heat pump", *furnaces)
     check(screen.startswith("\x1b[?1049h") and "\x1b[?1049l" in screen, "the terminal's other screen is not taken and left")
     check("Nadrelgos on " + link in screen and "heat pump (5)" in screen, "the screen has no head or no row")
     lines = [line.split(None, 2) for line in shown(boards, False, "listed: heat pump").splitlines()]

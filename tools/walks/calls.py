@@ -1,12 +1,6 @@
 """The functions that a walk calls: their contracts, what a call asks, and the steps of a call."""
-from collections import namedtuple
-
 from names import called, dash, key
 from terms import G, abbrev, at, bound, grouped, lemma, ungrouped
-
-
-# what arguments are of that are known only on the way: a term of a type, and its value where theirs are over that
-Over = namedtuple('Over', 'term type value', defaults=('',))
 
 
 def words(names):
@@ -63,11 +57,11 @@ class Callee:
 
     def asks(self, tokens, arguments, late=None):
         """what a call asks: the arguments, their values and what is owned of them, the ghost that the contract is used at, and that its precondition follows
-        from the tokens and what is owned. All this is over the argument, if there is one, that is known only on the way, or over what such arguments are of."""
+        from the tokens and what is owned. All this is over the argument, if there is one, that is known only on the way."""
         name, contract = self.name, f'{self.contract} {G}'
         terms = [(late.term, late.type)] if late else []
-        values = [(late.value, 'Val')] if late and late.value else terms
-        both = terms + [x for x in values if x not in terms]
+        values = [(late.value, 'Val')] if late else []
+        both = terms + values
         args, vals, over = at(f'{name}-args', words(terms)), at(f'{name}-vals', words(values)), words(both)
         items = f'{tokens} ∷ ‵ ({at(f"{name}-owns", over)}) ∷ []'
         return ''.join([

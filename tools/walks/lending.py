@@ -125,11 +125,16 @@ class SharedAgain(AgainSlice, SharedSlice):
 
 
 class LentSliceAgain(AgainSlice, LentSlice):
-    """`&mut [T]` of a slice that is lent for writing"""
+    """`&mut [T]` of a slice that is lent for writing; `long` is that what it holds now is as long as it was at entry"""
 
-    def __init__(self, x, times, passed, end):
-        LentSlice.__init__(self, x.name, for_call(times, x.place.block, x.place.offset), None, None, x.of, x.now, x.room, end, '')
+    def __init__(self, x, times, passed, end, long='refl'):
+        LentSlice.__init__(self, x.name, for_call(times, x.place.block, x.place.offset), None, x.value, x.of, x.now, x.room, end, '')
         self.of_parameter(x, times, passed)
+        self.long = long
+
+    def law(self, name):
+        """one of the laws, which are at the length too"""
+        return f'{super().law(name)} {self.long}'
 
     def lend(self, w):
         """from the parameter"""

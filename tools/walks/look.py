@@ -1,15 +1,15 @@
 """The walk of the function that looks at a lent coordinator and at lent records:
 
-    fn look(coordinator: &Coordinator, nodes: &[Node], kinds: &mut [u8; 40], marks: &mut [u8; 40], macs: &mut [u64; 40]) -> Seen {
+    fn look(coordinator: &Coordinator, nodes: &[Node], kinds: &mut [u8; 40], indexes: &mut [u8; 40], macs: &mut [u64; 40]) -> Seen {
         let setup = coordinator.setup;
         let state = state_of(coordinator);
-        let d = digest(setup.k, nodes, kinds, marks, macs);
-        Seen { setup: setup, state: state, ok: d.ok, top: d.top }
+        let d = digest(setup.k, nodes, kinds, indexes, macs);
+        Seen { setup: setup, state: state, ok: d.ok, top: d.top, owed: d.owed }
     }
 
 Coordinator and records are shared, and a copy of the reference goes to each callee; the columns are given to `digest` for good.
 
-h and ys are coordinator and records, ks, os and ms the columns at entry, s is the state, d the digest. What `look` ensures is what `state_of` ensures of s and
+h and ys are coordinator and records, ks, xs and ms the columns at entry, s is the state, d the digest. What `look` ensures is what `state_of` ensures of s and
 `digest` of d, with the setup as it is."""
 from borrows import SharedRecord, SharedSlice, marked
 from calls import Callee
@@ -21,9 +21,9 @@ from stages import Stages
 from terms import abbrev, lemma, nest
 
 # the columns: an array, and what it is at entry
-COLUMNS = {'kinds': (Numbers('u8', 40), 'ks'), 'marks': (Numbers('u8', 40), 'os'), 'macs': (Numbers('u64', 40), 'ms')}
+COLUMNS = {'kinds': (Numbers('u8', 40), 'ks'), 'indexes': (Numbers('u8', 40), 'xs'), 'macs': (Numbers('u64', 40), 'ms')}
 MADE, IS_MADE = 'seen h s d', 'is-seen h _ isc s _ iss d _ isd'
-ALL = 'digestAll (h .setup .k) ys (digested (dg true 0) ks os ms)'
+ALL = 'digestAll (h .setup .k) ys (digested (dg true 0 0) ks xs ms)'
 
 
 class Look(Stages):
@@ -46,8 +46,8 @@ class Look(Stages):
 
     def known(self):
         """what is seen, and that its value is right where those of its parts are"""
-        parts = ['is-setup h vs is', STATE.told('s', 'us', 'of'), DIGEST.owed('d', 'ws on', 'ok'), DIGEST.owed('d', 'ws on', 'top')]
-        return (abbrev('seen', 'Coordinator → State → Digest → Seen', 'record { setup = h .setup; state = s; ok = d .ok; top = d .top }', 'h s d', 0)
+        parts = ['is-setup h vs is', STATE.told('s', 'us', 'of'), DIGEST.owed('d', 'ws on', 'ok'), DIGEST.owed('d', 'ws on', 'top'), DIGEST.owed('d', 'ws on', 'owed')]
+        return (abbrev('seen', 'Coordinator → State → Digest → Seen', 'record { setup = h .setup; state = s; ok = d .ok; top = d .top; owed = d .owed }', 'h s d', 0)
                 + lemma('is-seen', '(h : Coordinator) (vs : List Val) → Is K.the-row h vs → (s : State) (us : List Val) → Is Sta.the-row s us'
                         f' → (d : Digest) (ws : List Val) → Is Di.the-row d ws → Is Sn.the-row (seen h s d) ({SEEN.listed(MADE)})',
                         f'\n    LL.owes Sn.the-type Sn′.the-laws ({MADE}) {nest(parts)}', 'h vs is s us of d ws on', 0))
@@ -55,7 +55,7 @@ class Look(Stages):
     def exits(self):
         """what is left at exit is what is to hold"""
         ends = ' '.join(x.end for x in self.columns)
-        said = f'(r .setup ≡ h .setup) × ((r .state ≡ stateOf h) × (digested (dg (r .ok) (r .top)) {ends} ≡ {ALL}))'
+        said = f'(r .setup ≡ h .setup) × ((r .state ≡ stateOf h) × (digested (dg (r .ok) (r .top) (r .owed)) {ends} ≡ {ALL}))'
         return self.exit_lemma([('r', 'Seen'), ('v', 'Val'), (ends, 'List ℕ')], said, SEEN, 'r', 'v')
 
     def walk(self):
@@ -64,7 +64,7 @@ class Look(Stages):
         self.read_setup(w)
         self.call_state_of(w)
         ends = self.call_digest(w)
-        w.aggregate('return', [w.read('setup'), w.read('state'), *(w.field('d', *path('Digest', name)) for name in ('ok', 'top'))],
+        w.aggregate('return', [w.read('setup'), w.read('state'), *(w.field('d', *path('Digest', name)) for name in ('ok', 'top', 'owed'))],
                     SEEN.typed(MADE, IS_MADE))
         self.leave(w)
         return self.walk_lemma(w, f'by ! (exits ({MADE}) _ {ends} (refl, (es, ed)) ({IS_MADE}))')
@@ -85,7 +85,7 @@ class Look(Stages):
         w.spell('state', STATE, 's', 'iss', 'y')
 
     def call_digest(self, w):
-        """let d = digest(setup.k, nodes, kinds, marks, macs)"""
+        """let d = digest(setup.k, nodes, kinds, indexes, macs)"""
         w.say('-- `digest`')
         for x in self.columns:
             x.reborrow(w)

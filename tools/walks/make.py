@@ -26,14 +26,15 @@ STEP = {
 }
 
 
-def amend(change, parameters, edit, changed):
-    """one record changed in place, by an edit"""
+def amend(change, parameters, edit, changed, numbers=None):
+    """one record changed in place, by an edit, and all of them numbered then, or not"""
+    law = f'number-in-place ys {{us}} e0 {edit} r eu er {{zs}} ez' if numbers else f'amend-in-place ys {{zs}} e0 {edit} r ez er'
     return Editing(
-        f'nadrelgos_{change}', calls=f'lent::{change}_edit', result='Amendment', fields={'from': USIZE, 'to': USIZE, 'edit': EDIT, 'answer': U64},
-        edits=('from', 'to', 'edit'), parameters=parameters,
+        f'nadrelgos_{change}', calls=f'lent::{change}_edit', result='Amendment', fields={'from': USIZE, 'to': USIZE, 'edit': EDIT, 'all': USIZE, 'answer': U64},
+        edits=('from', 'to', 'edit'), numbers=numbers, parameters=parameters,
         gives=f'r ≡ amending (length ys) e0 {edit}',
         said=f'amends {{y}} {{zs}} ≡ amendOf (length ys) ys ({changed})',
-        law=f'amend-in-place ys {{zs}} e0 {edit} r er ez')
+        law=law)
 
 
 WALKS = [
@@ -41,8 +42,8 @@ WALKS = [
         'setup', calls='start::begin', result='Begun', fields={'coordinator': COORDINATOR, 'clear': USIZE, 'outcome': OUTCOME}, edits=(0, 'clear', 'Cleared'), **SETUP,
         gives='r ≡ beginOf h (length ys) xs0 e1 e2 e3 e4',
         law='setup-in-place h ys xs0 e1 e2 e3 e4 {zs} r er ez'),
-    amend('list', ['usize', 'u8', 'u64', 'u64'], '(Joined e1 e2 e3)', 'listing ys e0 e1 e2 e3'),
-    amend('clear', ['usize'], 'Cleared', 'clearing ys e0'),
+    amend('list', ['usize', 'u8', 'u64', 'u64'], '(Joined e1 e2 e3)', 'listing ys e0 e1 e2 e3', numbers='all'),
+    amend('clear', ['usize'], 'Cleared', 'clearing ys e0', numbers='all'),
     amend('mark', ['usize'], 'Owed', 'marking ys e0'),
     OnCopies('lend_setup', calls='panel::setup', out=False, **SETUP),
     OnCopies('lend_step', calls='panel::step', **STEP),

@@ -8,12 +8,13 @@
         let from = below(change.position);
         amend(nodes, from, change.position, change.edit);
         let to = all_if(change.owe, nodes.len());
+        number(nodes, to);
         amend(nodes, 0, to, Edit::Owed);
     }
 
-The coordinator is lent again to `put_state` and given to `keep` for good, the records are lent again to the first `amend` and given to the second.
+The coordinator is lent again to `put_state` and given to `keep` for good, the records are lent again to the first `amend` and to `number`, and given to the second `amend`.
 
-h is the coordinator at entry, h₁ with its state put, k what it ends as; ys are the records at entry, zs with one of them edited, us what they end as. s is the
+h is the coordinator at entry, h₁ with its state put, k what it ends as; ys are the records at entry, zs with one of them edited, ns numbered or not, us what they end as. s is the
 state that was read, s₁ the one after it, x is the change, bs are the bytes received, b is whether they are kept, i and m what `below` and `all_if` give. `coordinator-made` and the law
 `change-made` lead from what the calls ensure to what `make` ensures."""
 from borrows import SharedSlice, marked
@@ -29,6 +30,8 @@ from terms import grouped, lemma
 # the fields of a change that are read
 FIELDS = {'position': USIZE, 'edit': EDIT, 'owe': BOOL}
 OWED = EDIT.value('Owed')
+# how many are numbered and owed the list, and that as an argument
+ALL, TO = 'choose (x .owe) (length ys) 0', Value('to', USIZE, 'm', 'vm', 'ism')
 MOVED, PUT = 'stateOf (moved (x .moves) bs (rested (x .ended) (stated s)))', 'composed (h .setup) s₁ (h .kept .payload)'
 
 
@@ -42,7 +45,7 @@ class Make(Stages):
     own, gives = 'place', NOTHING
     about = 'the parts of the change are made one after another: coordinator and records are lent again to the first function over them, and given to the last.'
     rows = (IN_PLACE, NODE, STATE, CHANGE, EDIT)
-    names = 'choose stateOf stated composed Owed keptBytes keepable rested moved keeps changedFrom amended editedBetween coordinator-val state-val change-made LentSlice lends-slice slice-back'
+    names = 'choose stateOf stated composed Owed keptBytes keepable rested moved keeps changedFrom amended editedBetween numberedFirst coordinator-val state-val change-made LentSlice lends-slice slice-back'
 
     def __init__(self):
         self.coordinator = LentRecord('coordinator', marked('₀'), None, IN_PLACE, 'h', 'k')
@@ -53,15 +56,16 @@ class Make(Stages):
         self.after, self.keeps = Callee('change::after', 'after′', 'After', 'after'), Callee('change::keeps', 'keeps′', 'Keeps', 'keeps')
         self.put_state, self.keep = Callee('place::put_state', 'put′', 'Put', 'put', stem='put'), Callee('place::keep', 'keep′', 'Keep', 'kept', stem='kept')
         self.below, self.amend = Callee('place::below', 'below′', 'Lower', 'below'), Callee('place::amend', 'amend′', 'Amend', 'amend')
-        self.all_if = Callee('place::all_if', 'all′', 'All', 'all', stem='all')
+        self.all_if, self.number = Callee('place::all_if', 'all′', 'All', 'all', stem='all'), Callee('place::number', 'number′', 'Number', 'number')
         super().__init__('make', [self.coordinator, self.nodes, self.state, self.change, self.received],
-                         [self.after, self.put_state, self.keeps, self.keep, self.below, self.amend, self.all_if])
+                         [self.after, self.put_state, self.keeps, self.keep, self.below, self.amend, self.all_if, self.number])
 
     def locals(self):
         """those of the code, then what passes on the arguments of each call"""
         return {'after': STATE.mirror, 'kept': grouped(BOOL.mirror), 'from': grouped(USIZE.mirror), 'to': grouped(USIZE.mirror), 'unit': NOTHING.mirror,
                 'put.ref': reference(IN_PLACE, 'mut'), 'keep.ref': reference(IN_PLACE, 'mut'),
                 'amend.ref': reference(NODE, 'mut'), 'amend.slice': slice_of(NODE, 'mut'), 'n': grouped(USIZE.mirror),
+                'number.ref': reference(NODE, 'mut'), 'number.slice': slice_of(NODE, 'mut'),
                 'owe.ref': reference(NODE, 'mut'), 'owe.slice': slice_of(NODE, 'mut'), 'edit': EDIT.mirror}
 
     def known(self):
@@ -88,10 +92,11 @@ class Make(Stages):
         self.call_put_state(w)
         self.call_keep(w)
         self.amend_one(w)
+        self.number_all(w)
         self.amend_all(w)
         w.copy('return', 'unit-lit !', '(tt, tt)', 'vunit')
         self.leave(w)
-        return self.walk_lemma(w, 'by ! (exits k (ws .0) (lu ∙ lz) (ek, change-made x ys zs (ws .0) i m ei ez lz em eu))')
+        return self.walk_lemma(w, 'by ! (exits k (ws .0) (lu ∙ ln ∙ lz) (ek, change-made x ys zs ns (ws .0) i m ei ez lz em en ln eu))')
 
     def call_put_state(self, w):
         """let after = change::after(change, state, received); put_state(coordinator, after)"""
@@ -135,14 +140,27 @@ class Make(Stages):
         self.stage(w, ('vj₃', 'Val'), ('zs', 'List Node', '(ws .0)'), ('ez', f'zs ≡ {edited}'),
                    ('lz', 'length zs ≡ length ys'))
 
-    def amend_all(self, w):
-        """let to = all_if(change.owe, nodes.len()); amend(nodes, 0, to, Edit::Owed)"""
-        w.say('-- all are owed the list, or none: the records are given to it')
+    def number_all(self, w):
+        """let to = all_if(change.owe, nodes.len()); number(nodes, to)"""
+        w.say('-- all are numbered, or none: the records are lent again')
         count = Value('n', USIZE, 'length ys', USIZE.value('length ys'), '(refl, room .0)')
         w.copy('n', w.field('nodes', 1), '(tt, record { fits = room .0 })', count.value)
-        self.call(w, self.all_if, Arguments.of_call(self.of('owe'), count), ('m', USIZE, 'vm', 'ism'), 'm ≡ choose (x .owe) (length ys) 0', 'em', 'to', 'ws₁')
+        self.call(w, self.all_if, Arguments.of_call(self.of('owe'), count), ('m', USIZE, 'vm', 'ism'), f'm ≡ {ALL}', 'em', 'to', 'ws₁')
+        self.stage(w, ('m', 'ℕ'), ('vm', 'Val'), ('ism', 'Is usize m (vm ∷ [])'), ('em', f'm ≡ {ALL}'))
+        self.nodes.reborrow(w, 'number')
+        passed = Arguments.of_call(LentSliceAgain(self.nodes.holding('zs'), ('ν', 'δ'), 'number.slice', 'ns', 'lz'), TO)
+        passed.lend(w)
+        numbered = 'numberedFirst zs (min (length zs) m)'
+        self.call(w, self.number, passed, ('j₄', NOTHING, 'vj₄', 'isj₄'), f'ws .0 ≡ {numbered}', 'en', 'unit')
+        passed[0].come_back(w, 'ws .0')
+        self.says.update(self.nodes.holding('ns').says())
+        self.stage(w, ('vj₄', 'Val'), ('ns', 'List Node', '(ws .0)'), ('en', f'ns ≡ {numbered}'), ('ln', 'length ns ≡ length zs'))
+
+    def amend_all(self, w):
+        """amend(nodes, 0, to, Edit::Owed)"""
+        w.say('-- all are owed the list, or none: the records are given to it')
         self.nodes.reborrow(w, 'owe')
         owed = Value('edit', EDIT, 'Owed', OWED, 'is-owed')
         w.aggregate('edit', ['lit ! tt'], owed.typed, OWED)
-        passed = Arguments.of_call(self.nodes.holding('zs').at('owe.slice'), Zero(), Value('to', USIZE, 'm', 'vm', 'ism'), owed)
-        self.call(w, self.amend, passed, ('j₄', NOTHING, 'vj₄', 'isj₄'), 'ws .0 ≡ editedBetween zs 0 m Owed', 'eu', 'unit')
+        passed = Arguments.of_call(self.nodes.holding('ns').at('owe.slice'), Zero(), TO, owed)
+        self.call(w, self.amend, passed, ('j₅', NOTHING, 'vj₅', 'isj₅'), 'ws .0 ≡ editedBetween ns 0 m Owed', 'eu', 'unit')

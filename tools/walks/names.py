@@ -17,10 +17,10 @@ DEFINED = {
     'steps.specs.Step': ['stepOf'],
     'lent.specs.Numbers': ['packed', 'facing', 'faced', 'eventOf'],
     'change.specs.declared.Edit.the-variants': ['Owed', 'Cleared', 'Joined'],
-    'place.specs.Place': ['editedBetween'],
+    'place.specs.Place': ['editedBetween', 'numberedFirst'],
     'start.specs.Begin': ['beginOf'],
     'lent.specs.Amend': ['amends', 'amendOf', 'listing', 'clearing', 'marking', 'amending'],
-    'lent.proofs.InPlace': ['setup-in-place', 'amend-in-place'],
+    'lent.proofs.InPlace': ['setup-in-place', 'number-in-place', 'amend-in-place'],
     'lent.proofs.Faces': ['faced-as', 'step-faced'],
 }
 SHARED = {

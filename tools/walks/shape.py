@@ -3,6 +3,7 @@ import os
 from collections import namedtuple
 
 from borrows import Bytes
+from calls import Call
 from lent import LentSlice
 from names import dash, definitions, key, laws, libraries, shared, trimmed, types, walked
 from parameters import Arguments, Case, Number
@@ -174,6 +175,18 @@ class Shape:
         for x in self.bytes:
             x.lend(w)
         w.gather(arguments.given())
+
+    def call(self, w, callee, arguments, gave, fact, told, to, ended='ws'):
+        """to = callee(arguments): `gave` names the result, its row, value and proof, `ended` what is left of what was passed; the fact that is ensured is `told`"""
+        result, row, value, proof = gave
+        terms, values, lifetimes = arguments.terms(), arguments.values(), nest(arguments.lifetimes)
+        tokens = f'({arguments.tokens(self.no_tokens)})' if arguments.lifetimes else '‵ ftrue'
+        asks = f'qed W ({tokens} ∷ ‵ (owns ({arguments.rows()}) {terms} {values}) ∷ []) ∵ join ! $ frame ! $ done !'
+        w.gather(arguments.given())
+        w.tokens_together(arguments.lifetimes)
+        Call(callee, arguments.ghost(terms, values), asks, terms, tokens, lifetimes).whole(w, arguments, gave, ended, fact, told)
+        w.tokens_apart(arguments.lifetimes)
+        w.land(to, row.typed(result, proof), value)
 
     def leave(self, w):
         """returns, with what `exits` takes"""

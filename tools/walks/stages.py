@@ -1,9 +1,8 @@
-"""What the walks share that go through the statements of one function, each in its own way. Each call says what it asks, and a long walk goes in stages: a stage is
-a lemma about the code from a statement on, over what is known there. It says what each item of the context is, so that the checker carries no more than that."""
-from calls import Call
+"""What the walks share that go through the statements of one function, each in its own way. A long walk goes in stages: a stage is a lemma about the code from a
+statement on, over what is known there. It says what each item of the context is, so that the checker carries no more than that."""
 from names import laws, libraries, named, types, walked
 from shape import WHOLE, Shape
-from terms import ABOUT, abbrev, bound, consed, grouped, location, nest, token
+from terms import ABOUT, abbrev, bound, consed, grouped, location, token
 
 
 class Stages(Shape):
@@ -94,16 +93,3 @@ class Stages(Shape):
             env = abbrev('En', 'Env 𝓤 H', consed(f'({self.types[local]}, {place})' for local, place in self.places.items()), indent=6)
             text += f'    module _ ({" ".join(self.places.values())} : ℕ) where\n{env}' + ''.join(reversed(self.stages))
         return text
-
-    # Calls.
-    def call(self, w, callee, arguments, gave, fact, told, to, ended='ws'):
-        """to = callee(arguments): `gave` names the result, its row, value and proof, `ended` what is left of what was passed; the fact that is ensured is `told`"""
-        result, row, value, proof = gave
-        terms, values, lifetimes = arguments.terms(), arguments.values(), nest(arguments.lifetimes)
-        tokens = f'({arguments.tokens(self.no_tokens)})' if arguments.lifetimes else '‵ ftrue'
-        asks = f'qed W ({tokens} ∷ ‵ (owns ({arguments.rows()}) {terms} {values}) ∷ []) ∵ join ! $ frame ! $ done !'
-        w.gather(arguments.given())
-        w.tokens_together(arguments.lifetimes)
-        Call(callee, arguments.ghost(terms, values), asks, terms, tokens, lifetimes).whole(w, arguments, gave, ended, fact, told)
-        w.tokens_apart(arguments.lifetimes)
-        w.land(to, row.typed(result, proof), value)

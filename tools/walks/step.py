@@ -2,11 +2,11 @@
 
     fn step(coordinator: &mut Coordinator, nodes: &mut [Node], event: Event, received: &[u8], out: &mut [u8]) -> Outcome {
         let mut kinds = [0u8; 40];
-        let mut marks = [0u8; 40];
+        let mut indexes = [0u8; 40];
         let mut macs = [0u64; 40];
-        let seen = place::look(coordinator, nodes, &mut kinds, &mut marks, &mut macs);
+        let seen = place::look(coordinator, nodes, &mut kinds, &mut indexes, &mut macs);
         let node = place::record_at(nodes, seen.state.stand.board);
-        let change = stepping::counted(nodes.len(), seen, node, &coordinator.kept.payload, &kinds, &marks, &macs, event, received, out);
+        let change = stepping::counted(nodes.len(), seen, node, &coordinator.kept.payload, &kinds, &indexes, &macs, event, received, out);
         place::make(coordinator, nodes, seen.state, change, received);
         change.outcome
     }
@@ -29,7 +29,7 @@ from stages import Stages
 from terms import grouped, lemma
 
 # what the columns are of, what each is when it has been noted, and that its zeros are right
-COLUMNS = {'kinds': (Numbers('u8', 40), 'cs', 'zeros8'), 'marks': (Numbers('u8', 40), 'ds', 'zeros8'), 'macs': (Numbers('u64', 40), 'fs', 'zeros64')}
+COLUMNS = {'kinds': (Numbers('u8', 40), 'cs', 'zeros8'), 'indexes': (Numbers('u8', 40), 'ds', 'zeros8'), 'macs': (Numbers('u64', 40), 'fs', 'zeros64')}
 ZEROS, BOARD, DOES = '(replicate 40 0)', '(s .state .stand .board)', 'stepOf h ys ev bs (length os)'
 SEEN_VALUE, CHANGE_VALUE = SEEN.value('s'), CHANGE.value('x')
 
@@ -114,12 +114,12 @@ class Step(Stages):
         return self.walk_lemma(w, f'by ! (exits (ws .0) (ws .1 .0) ts (x .outcome) _ lu lt ({law}) (to-outcome x _ isx))')
 
     def make_columns(self, w):
-        """let mut kinds = [0u8; 40]; let mut marks = [0u8; 40]; let mut macs = [0u64; 40]"""
+        """let mut kinds = [0u8; 40]; let mut indexes = [0u8; 40]; let mut macs = [0u64; 40]"""
         for x in self.columns:
             w.assign(x.name, 'rep ! 40 (lit ! tt)', x.of.typed(ZEROS, x.is_zeros), x.zeros)
 
     def call_look(self, w):
-        """let seen = place::look(coordinator, nodes, &mut kinds, &mut marks, &mut macs)"""
+        """let seen = place::look(coordinator, nodes, &mut kinds, &mut indexes, &mut macs)"""
         self.coordinator.reborrow(w, 'look.coordinator')
         self.nodes.reborrow(w, 'look')
         for x in self.columns:
@@ -159,7 +159,7 @@ class Step(Stages):
         self.stage(w, ('y', 'Node'), ('vy', 'Val'), ('isy', 'Is T.the-row y (vy ∷ [])'), ('ey', found))
 
     def call_counted(self, w):
-        """let change = stepping::counted(nodes.len(), seen, node, &coordinator.kept.payload, &kinds, &marks, &macs, event, received, out)"""
+        """let change = stepping::counted(nodes.len(), seen, node, &coordinator.kept.payload, &kinds, &indexes, &macs, event, received, out)"""
         count = Value('n', USIZE, 'length ys', USIZE.value('length ys'), '(refl, room₁ .0)')
         w.copy('n', w.field('nodes', 1), '(tt, record { fits = room₁ .0 })', count.value)
         w.address('payload.shr', f'hop ! (look ! {w.cell("coordinator")} refl) {FIELD}', VALUE)

@@ -6,7 +6,7 @@ use mathlib.Core.List.{List, map}
 use mathlib.Core.Bool.{true, not}
 use lib.Dec.{eqb}
 use lib.ListN.{length, getD, length-set, length-map, List·getD-map}
-use lib.Seq.{getD-set-same, getD-set-other}
+use lib.Seq.{getD-set-same, getD-set-other, map-set-same}
 use Rattle.ground.specs.Choose.{choose}
 use Rattle.ground.proofs.Choices.{choose-yes}
 use Rattle.board.specs.declared.Node.{Node}
@@ -34,6 +34,10 @@ at-put-other t p q n ne = at-each (λ i. at (put t p n) i ≡ at t i) q (λ h. a
   where
     kept : 0 < q → getD (put t p n) (q - 1) none ≡ getD t (q - 1) none
     kept h = at-each (λ i. getD (put t i n) (q - 1) none ≡ getD t (q - 1) none) p (λ l. rw (put-zero t p n l) refl) (λ l. rw (put-position t p n l) (getD-set-other t (p - 1) (q - 1) n none (λ e. ne (omega arith))))
+
+-- a record that is put over one with which it agrees in a column leaves that column as it was
+pub put-alike : (g : Node → ℕ) (t : List Node) (p : ℕ) (n : Node) → g n ≡ g (at t p) → map g (put t p n) ≡ map g t
+put-alike g t p n e = at-each (λ q. map g (put t q n) ≡ map g t) p (λ h. ap (map g) (put-zero t p n h)) (λ h. ap (map g) (put-position t p n h) ∙ map-set-same g t (p - 1) n none (e ∙ ap g (at-position t p h)))
 
 -- a change of every record that leaves the blank one blank is that change at every position
 pub at-map : (f : Node → Node) → f none ≡ none → (t : List Node) (p : ℕ) → at (map f t) p ≡ f (at t p)

@@ -2,23 +2,25 @@
 use Prim.Native.Nat.{ℕ, suc, _+_, _-_, _≤_, _<_, min}
 use native.Mathlib.Omega.{arith}
 use mathlib.Core.Path.{_≡_, refl, sym, ap, _∙_}
-use mathlib.Core.Bool.{Bool, true, false, _&&_, not}
+use mathlib.Core.Logic.{_⊎_, inl, inr}
+use mathlib.Core.Bool.{Bool, true, false, _&&_}
 use mathlib.Core.List.{List, _∷_, map}
-use lib.Dec.{eqb, ltb, leb}
+use lib.Dec.{eqb, leb}
 use lib.ListN.{getD, length, length-map, List·getD-map}
-use borrow.Author.Tests.{ne-eqb, eqb-true, ltb-true, ltb-false, leb-true, leb-false}
+use lib.Seq.{ext-getD}
+use borrow.Author.Tests.{ne-eqb, leb-false}
 use Rattle.ground.specs.Choose.{choose}
 use Rattle.ground.specs.Below.{firstOr, upFrom}
 use Rattle.ground.proofs.Choices.{chosen, unchosen}
-use Rattle.ground.proofs.Runs.{run-length, run-map-at}
+use Rattle.ground.proofs.Runs.{run-length}
 use Rattle.board.specs.declared.Node.{Node}
 use Rattle.board.specs.declared.Wanted.{Wanted}
-use Rattle.board.specs.declared.Wanted.the-variants.{Owed, Kind, Mac}
+use Rattle.board.specs.declared.Wanted.the-variants.{Mac}
 use Rattle.board.specs.Node.{none}
 use Rattle.board.specs.Table.{at, listedAt}
 use Rattle.board.specs.Wanted.{wants, wantedAt, lowestOf, ofKindBelow, indexOf}
-use Rattle.board.specs.Columns.{kindOf, kindsOf, markOf, marksOf, macOf, macsOf, typedAs, typed, inColumn, columnAt, lowestIn}
-use Rattle.board.proofs.Positions.{at-position, at-zero, at-past}
+use Rattle.board.specs.Columns.{kindOf, kindsOf, macOf, macsOf, typedAs, typed, inColumn, columnAt, lowestIn}
+use Rattle.board.proofs.Positions.{Outside, at-made, at-next, at-past, at-outside, position-case}
 use Rattle.board.proofs.SameKinds.{SameKinds}
 
 -- a column of what is 0 in the blank record holds at a position what the record there has
@@ -30,6 +32,10 @@ column-at f z t p = ap (λ (x : ℕ). getD (x ∷ map f t) p x) (sym z) ∙ List
 pub column-position : (column : List ℕ) (p : ℕ) → 0 < p → inColumn column p ≡ getD column (p - 1) 0
 unfolding inColumn
 column-position column p h = rw (let e : p ≡ suc (p - 1) = omega arith in e) (rw (let e : suc (p - 1) - 1 ≡ p - 1 = omega arith in e) refl)
+
+-- index i of it, from 0, is position i + 1
+pub column-next : (f : Node → ℕ) (t : List Node) (i : ℕ) → getD (map f t) i (f none) ≡ f (at t (i + 1))
+column-next f t i = List·getD-map f t i none ∙ ap f (sym (at-next t i))
 
 -- at position 0 nothing is held
 pub column-zero : (column : List ℕ) (p : ℕ) → p ≤ 0 → 0 ≡ columnAt column p
@@ -52,7 +58,7 @@ typed-length kinds = length-map (upFrom 1 40) (λ p. typedAs (inColumn kinds p))
 
 pub typed-position : (kinds : List ℕ) (p : ℕ) → 0 < p → p ≤ 40 → at (typed kinds) p ≡ typedAs (getD kinds (p - 1) 0)
 unfolding typed
-typed-position kinds p h l = at-position (typed kinds) p h ∙ run-map-at (λ q. typedAs (inColumn kinds q)) 1 40 (p - 1) none (omega arith) ∙ ap typedAs (ap (inColumn kinds) (let e : 1 + (p - 1) ≡ p = omega arith in e) ∙ column-position kinds p h)
+typed-position kinds p h l = at-made (λ q. typedAs (inColumn kinds q)) 40 p h l ∙ ap typedAs (column-position kinds p h)
 
 -- what the test of the element before p says of position p
 pub looked-in : (kinds : List ℕ) (w : Wanted) (p : ℕ) {r : Bool} → r ≡ wants w (typedAs (getD kinds (p - 1) 0)) → 0 < p → p ≤ 40 → r ≡ wantedAt w (typed kinds) p
@@ -66,19 +72,19 @@ index-here kinds p r e h l = e ∙ ap (λ (n : Node). ofKindBelow (typed kinds) 
 -- a column of forty records has at every position what the record there has
 module _ (f : Node → ℕ) (z : f none ≡ 0) (t : List Node) (forty : length t ≡ 40) where
   pub typed-at : (p : ℕ) → at (typed (map f t)) p ≡ typedAs (f (at t p))
-  typed-at p = go (ltb 0 p) (leb p 40) refl refl
+  typed-at p = go (position-case 40 p)
     where
-      nobody : at (typed (map f t)) p ≡ none → at t p ≡ none → at (typed (map f t)) p ≡ typedAs (f (at t p))
-      nobody e h = e ∙ ap typedAs (sym (ap f h ∙ z))
-
-      go : (a b : Bool) → ltb 0 p ≡ a → leb p 40 ≡ b → at (typed (map f t)) p ≡ typedAs (f (at t p))
-      go true true h l = typed-position (map f t) p (ltb-true 0 p h) (leb-true p 40 l) ∙ ap typedAs (sym (column-position (map f t) p (ltb-true 0 p h)) ∙ column-at f z t p)
-      go true false h l = nobody (at-past _ p 40 (typed-length _) (leb-false p 40 l)) (at-past t p 40 forty (leb-false p 40 l))
-      go false b h l = nobody (at-zero _ p (ltb-false 0 p h)) (at-zero t p (ltb-false 0 p h))
+      go : Outside 40 p ⊎ ((0 < p) × (p ≤ 40)) → at (typed (map f t)) p ≡ typedAs (f (at t p))
+      go (inl o) = at-outside _ p 40 (typed-length _) o ∙ ap typedAs (sym (ap f (at-outside t p 40 forty o) ∙ z))
+      go (inr (h, l)) = typed-position (map f t) p h l ∙ ap typedAs (sym (column-position (map f t) p h) ∙ column-at f z t p)
 
 -- so records of which the types alone are known have the types of those that they were taken from
 pub typed-kinds : (t : List Node) → length t ≡ 40 → SameKinds (typed (kindsOf t)) t
 typed-kinds t forty = record { kind = λ p. ap kindOf (typed-at kindOf refl t forty p) }
+
+-- tables of one length with the same types have one column of types
+pub same-kinds : {t u : List Node} → SameKinds t u → length t ≡ length u → kindsOf t ≡ kindsOf u
+same-kinds {t} {u} same size = ext-getD 0 (kindsOf t) (kindsOf u) (length-map t kindOf ∙ size ∙ sym (length-map u kindOf)) (λ i l. column-next kindOf t i ∙ same .kind (i + 1) ∙ sym (column-next kindOf u i))
 
 -- what the test of the element before p says of what a column holds there
 pub valued : (column : List ℕ) (value p : ℕ) {r : Bool} → r ≡ eqb (getD column (p - 1) 0) value → 0 < p → r ≡ eqb (inColumn column p) value
@@ -101,19 +107,3 @@ module _ (t : List Node) (blanks : Blanks t) where
   pub lowest-of-mac : (mac limit : ℕ) → 0 < mac → lowestIn (macsOf t) mac limit ≡ lowestOf t (Mac mac) limit
   unfolding lowestIn lowestOf
   lowest-of-mac mac limit h = ap (λ (g : ℕ → Bool). firstOr 0 g (upFrom 1 (min limit 40))) (λ i p. (ap (λ (x : ℕ). eqb x mac) (column-at macOf refl t p) ∙ listed-value macOf mac (λ e. omega (arith, e, h)) p) i)
-
-  -- and the lowest mark is that of a board to which the list is owed
-  pub lowest-mark : length t ≡ 40 → (limit : ℕ) → lowestOf (typed (marksOf t)) (Kind 1) limit ≡ lowestOf t Owed limit
-  unfolding lowestOf
-  lowest-mark forty limit = ap (λ (g : ℕ → Bool). firstOr 0 g (upFrom 1 (min limit 40))) (λ i p. (ap (λ (n : Node). wants (Kind 1) n) (typed-at markOf refl t forty p) ∙ marked (at t p .owed) ∙ listed-value markOf 1 (λ e. omega (arith, e)) p) i)
-    where
-      marked : (m : ℕ) → (not (eqb m 0) && eqb m 1) ≡ eqb m 1
-      marked m = go (eqb m 1) refl
-        where
-          go : (b : Bool) → eqb m 1 ≡ b → (not (eqb m 0) && b) ≡ b
-          go true e = rw (eqb-true m 1 e) refl
-          go false e = never (not (eqb m 0))
-            where
-              never : (a : Bool) → (a && false) ≡ false
-              never true = refl
-              never false = refl

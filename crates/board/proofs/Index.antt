@@ -12,16 +12,19 @@ use Rattle.ground.proofs.Loops.{count-le, count-no, count-past}
 use Rattle.board.specs.declared.Node.{Node}
 use Rattle.board.specs.declared.Wanted.the-variants.{Kind}
 use Rattle.board.specs.Table.{at, listedAt}
-use Rattle.board.specs.Wanted.{wantedAt, ofKindBelow, indexOf}
+use Rattle.board.specs.Wanted.{wants, wantedAt, ofKindBelow, indexOf}
 use Rattle.board.proofs.Positions.{at-past, listed-within}
 
 -- no listed board is of kind 0
-pub of-kind-none : (t : List Node) (p : ℕ) → ofKindBelow t 0 p ≡ 0
-of-kind-none t p = count-no _ p (λ i l. never (eqb (at t i .kind) 0))
+pub wants-none : (n : Node) → wants (Kind 0) n ≡ false
+wants-none n = never (eqb (n .kind) 0)
   where
     never : (b : Bool) → (not b && b) ≡ false
     never true = refl
     never false = refl
+
+pub of-kind-none : (t : List Node) (p : ℕ) → ofKindBelow t 0 p ≡ 0
+of-kind-none t p = count-no _ p (λ i l. wants-none (at t i))
 
 -- where no board is listed the index is 0
 pub index-nobody : (t : List Node) (p : ℕ) → at t p .kind ≡ 0 → 0 ≡ indexOf t p

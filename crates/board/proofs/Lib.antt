@@ -8,3 +8,4 @@ pub mod Changes
 pub mod Cleared
 pub mod Unique
 pub mod Counts
+pub mod Numbered

@@ -12,9 +12,11 @@ use Rattle.board.proofs.missed.Reads as missed
 use Rattle.board.proofs.renewed.Reads as renewed
 use Rattle.board.proofs.lowest.Reads as lowest
 use Rattle.board.proofs.listed_at.Reads as listed-at
-use Rattle.board.proofs.lowest_owed.Reads as lowest-owed
+use Rattle.board.proofs.indexed.Reads as indexed
+use Rattle.board.proofs.counted.Reads as counted
 use Rattle.board.proofs.lowest_mac.Reads as lowest-mac
 use Rattle.board.proofs.mac_at.Reads as mac-at
+use Rattle.board.proofs.index_at.Reads as index-at
 use Rattle.board.proofs.next_listed.Reads as next-listed
 use Rattle.board.proofs.index_of.Reads as index-of
 
@@ -45,8 +47,14 @@ unique-lowest κs a s t r q p p′ = p ∙ sym p′
 pub unique-listed-at : (κs a s t : _) (r q : Bool) → listed-at.Post κs a r s → listed-at.Post κs a q t → r ≡ q
 unique-listed-at κs a s t r q p p′ = p ∙ sym p′
 
-pub unique-lowest-owed : (κs a s t : _) (r q : ℕ) → lowest-owed.Post κs a r s → lowest-owed.Post κs a q t → r ≡ q
-unique-lowest-owed κs a s t r q p p′ = p ∙ sym p′
+pub unique-indexed : (a s t : _) (r q : Node) → indexed.Post tt a r s → indexed.Post tt a q t → r ≡ q
+unique-indexed a s t r q p p′ = p ∙ sym p′
+
+pub unique-counted : (a s t : _) (r q : ℕ) → counted.Post tt a r s → counted.Post tt a q t → r ≡ q
+unique-counted a s t r q p p′ = p ∙ sym p′
+
+pub unique-index-at : (κs a s t : _) (r q : ℕ) → index-at.Post κs a r s → index-at.Post κs a q t → r ≡ q
+unique-index-at κs a s t r q p p′ = p ∙ sym p′
 
 pub unique-lowest-mac : (κs a s t : _) (r q : ℕ) → lowest-mac.Post κs a r s → lowest-mac.Post κs a q t → r ≡ q
 unique-lowest-mac κs a s t r q p p′ = p ∙ sym p′

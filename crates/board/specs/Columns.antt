@@ -1,4 +1,4 @@
--- What a step asks of all records is asked of their columns: the types, the marks, the MACs of positions 1 to 40 (01, "Boards and positions").
+-- What a step asks of all records is asked of their columns: the types, the stored indexes, the MACs of positions 1 to 40 (01, "Boards and positions").
 use Prim.Native.Nat.{ℕ, min}
 use mathlib.Core.List.{List, _∷_, map}
 use lib.ListN.{getD}
@@ -14,12 +14,12 @@ kindOf n = n .kind
 abbrev pub kindsOf : List Node → List ℕ
 kindsOf t = map kindOf t
 
--- their marks
-abbrev pub markOf : Node → ℕ
-markOf n = n .owed
+-- their stored indexes
+abbrev pub storedIndex : Node → ℕ
+storedIndex n = n .index
 
-abbrev pub marksOf : List Node → List ℕ
-marksOf t = map markOf t
+abbrev pub storedIndexes : List Node → List ℕ
+storedIndexes t = map storedIndex t
 
 -- their MACs
 abbrev pub macOf : Node → ℕ
@@ -38,7 +38,7 @@ columnAt column p = choose (leb p 40) (inColumn column p) 0
 
 -- a record of which the type is known, and nothing else
 abbrev pub typedAs : ℕ → Node
-typedAs kind = record { kind = kind; mac = 0; session = 0; misses = 0; owed = 0 }
+typedAs kind = record { kind = kind; mac = 0; session = 0; misses = 0; owed = 0; index = 0 }
 
 -- the forty records of a column of types
 unfoldable pub typed : List ℕ → List Node

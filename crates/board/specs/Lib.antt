@@ -3,4 +3,5 @@ pub mod Table
 pub mod Change
 pub mod Columns
 pub mod Wanted
+pub mod Index
 pub mod Round

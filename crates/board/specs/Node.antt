@@ -6,7 +6,7 @@ use Rattle.board.specs.declared.Node.{Node}
 
 -- an unlisted record is all zeros (01, "Boards and positions")
 abbrev pub none : Node
-none = record { kind = 0; mac = 0; session = 0; misses = 0; owed = 0 }
+none = record { kind = 0; mac = 0; session = 0; misses = 0; owed = 0; index = 0 }
 
 -- a record is listed where its type is not 0 (01, "An unlisted record has type 0")
 abbrev pub isListed : Node → Bool
@@ -14,7 +14,7 @@ isListed n = not (eqb (n .kind) 0)
 
 -- all zeros
 abbrev pub isBlank : Node → Bool
-isBlank n = eqb (n .kind) 0 && eqb (n .mac) 0 && eqb (n .session) 0 && eqb (n .misses) 0 && eqb (n .owed) 0
+isBlank n = eqb (n .kind) 0 && eqb (n .mac) 0 && eqb (n .session) 0 && eqb (n .misses) 0 && eqb (n .owed) 0 && eqb (n .index) 0
 
 -- a MAC is a number from 1 to 2^56 - 1 (001, 6.1)
 abbrev pub isMac : ℕ → Bool

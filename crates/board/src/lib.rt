@@ -1,20 +1,22 @@
 // The boards that the panel knows: a record for each of forty positions, and what the steps ask about them.
 // A position is a number from 1 on; position 0 and those past the table name nobody, and hold the blank record.
 ghost use mathlib.Core.Path.{_≡_};
-ghost use Prim.Native.Nat.{_+_, _≤_, _<_};
-ghost use Rattle.ground.specs.Below.{firstOr, upFrom};
+ghost use Prim.Native.Nat.{_+_, _≤_, _<_, min};
+ghost use Rattle.ground.specs.Below.{one, firstOr, upFrom};
 ghost use Rattle.board.specs.Node.{none};
 ghost use Rattle.board.specs.Table.{listedAt};
 ghost use Rattle.board.specs.declared.Wanted.the-variants.{Kind};
 ghost use Rattle.board.specs.Columns.{typedAs, typed, lowestIn, columnAt};
 ghost use Rattle.board.specs.Change.{joinedNode, owe, unmarked, heard, missed, renewed};
+ghost use Rattle.board.specs.Index.{indexed};
 ghost use Rattle.board.specs.Wanted.{wants, wantedAt, lowestOf, ofKindBelow, indexOf};
 ghost use Rattle.board.specs.Round.{nextListed};
 use ground::least;
 use ground::one_if;
 
 // What the panel knows of the board at one position. `owed` is 1 where the node list is owed to it, else 0: what a host
-// lends holds numbers only, so that every bit pattern has a meaning.
+// lends holds numbers only, so that every bit pattern has a meaning. `index` is how many lower listed positions are of its
+// type; 0 where nobody is listed.
 #[repr(C)]
 pub struct Node {
     pub kind: u8,
@@ -22,6 +24,7 @@ pub struct Node {
     pub session: u64,
     pub misses: u8,
     pub owed: u8,
+    pub index: u8,
 }
 
 // The records of positions 1 to 40.
@@ -50,10 +53,12 @@ pub fn blank_node() -> Node
         session: 0,
         misses: 0,
         owed: 0,
+        index: 0,
     }
 }
 
-// The record of a board that joins, for the first time or again. The list is owed to all afterwards, this board included.
+// The record of a board that joins, for the first time or again. The list is owed to all afterwards, this board included,
+// and every index is counted anew.
 pub fn joined_node(kind: u8, mac: u64, session: u64) -> Node
     ensures { λ r. ⌜ r ≡ joinedNode kind mac session ⌝ }
 {
@@ -63,6 +68,7 @@ pub fn joined_node(kind: u8, mac: u64, session: u64) -> Node
         session: session,
         misses: 0,
         owed: 0,
+        index: 0,
     }
 }
 
@@ -117,6 +123,15 @@ pub fn renewed(node: Node, session: u64) -> Node
     n
 }
 
+// The record of a board that has this index.
+pub fn indexed(node: Node, index: u8) -> Node
+    ensures { λ r. ⌜ r ≡ indexed node index ⌝ }
+{
+    let mut n = node;
+    n.index = index;
+    n
+}
+
 // Whether a type is what is looked for. A mark and a MAC are in other columns.
 fn is_wanted(wanted: Wanted, kind: u8) -> bool
     ensures { λ r. ⌜ r ≡ wants wanted (typedAs kind) ⌝ }
@@ -128,6 +143,23 @@ fn is_wanted(wanted: Wanted, kind: u8) -> bool
         Wanted::Kind(k) => (kind != 0) & (kind == k),
         Wanted::Mac(mac) => (kind != 0) & (0 == mac),
     }
+}
+
+// A count of the records of a type, with one more where this one is of it; it stops at 255. Nobody is of type 0, and that is
+// tested first: the compiler then leaves out the loop that would count it.
+pub fn counted(count: u8, kind: u8, node: Node) -> u8
+    ensures { λ r. ⌜ r ≡ min (count + one (wants (Kind kind) node)) 255 ⌝ }
+{
+    if kind == 0 {
+        return count;
+    }
+    if node.kind != kind {
+        return count;
+    }
+    if count == 255 {
+        return count;
+    }
+    count + 1
 }
 
 // The first position that is wanted, of `count` positions from `from` on; 0 for none.
@@ -197,7 +229,7 @@ fn kind_below(kinds: &[u8; 40], kind: u8, position: usize) -> usize
     n
 }
 
-// A board's index: the number of lower listed positions of its kind; 0 where nobody is listed.
+// A board's index as it is counted: the number of lower listed positions of its kind; 0 where nobody is listed.
 pub fn index_of(kinds: &[u8; 40], position: usize) -> usize
     ensures { λ r. ⌜ r ≡ indexOf (typed (now (kinds .entry))) position ⌝ }
 {
@@ -210,12 +242,17 @@ pub fn index_of(kinds: &[u8; 40], position: usize) -> usize
     0
 }
 
-// The lowest position from 1 to the limit whose mark says that the list is owed; 0 for none. Marks are looked through as
-// types are: 1 is what is looked for.
-pub fn lowest_owed(marks: &[u8; 40], limit: usize) -> usize
-    ensures { λ r. ⌜ r ≡ lowestOf (typed (now (marks .entry))) (Kind 1) limit ⌝ }
+// The stored index at a position; 0 at position 0 and past the table.
+pub fn index_at(indexes: &[u8; 40], position: usize) -> u8
+    ensures { λ r. ⌜ r ≡ columnAt (now (indexes .entry)) position ⌝ }
 {
-    lowest(marks, Wanted::Kind(1), limit)
+    if 0 < position {
+        if position <= 40 {
+            let i = position - 1;
+            return indexes[i];
+        }
+    }
+    0
 }
 
 // The lowest position from 1 to the limit that has a MAC; 0 for none.

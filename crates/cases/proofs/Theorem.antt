@@ -10,9 +10,10 @@ use Rattle.word.specs.Words.{bytesOf, valueOf, wordAt}
 use Rattle.board.specs.Table.{at, put}
 use Rattle.board.specs.Wanted.{lowestOf, highestListed, indexOf, someListed}
 use Rattle.board.specs.Round.{round, nextListed}
-use Rattle.board.specs.Change.{oweAll}
+use Rattle.board.specs.Index.{numbered}
+use Rattle.board.specs.Change.{oweAll, relisted}
 use Rattle.setup.specs.Setup.{arePool, address, setupFits}
-use Rattle.setup.specs.Fit.{recordFits, areApart, tableFits}
+use Rattle.setup.specs.Fit.{recordFits, areApart, areNumbered, tableFits}
 use Rattle.nodelist.specs.List.{nodeList, sameByte, sameList}
 use Rattle.message.specs.Message.{toBoard, ownHeader, signed}
 use Rattle.accept.specs.Accept.{isAck, heardAfterOffer, heardAfterList, heardAfterForward, heardAfterReturn}
@@ -26,5 +27,5 @@ use Rattle.steps.specs.Quiet.{quietIn}
 use Rattle.cases.specs.Cases.{Case, given, played, rows}
 
 pub all-given : map (λ (row : Case × List ℕ). given (row .0)) rows ≡ map (λ (row : Case × List ℕ). row .1) rows
-unfolding choose all some count upFrom firstOr highest sumsFrom reading frameOf bytesOf valueOf wordAt at put lowestOf highestListed indexOf someListed round nextListed oweAll arePool address setupFits recordFits areApart tableFits nodeList sameByte sameList toBoard ownHeader signed isAck heardAfterOffer heardAfterList heardAfterForward heardAfterReturn phaseOf standOf phaseFits holdFits fits startOf joinOf turnIn receiveIn quietIn given played rows
+unfolding choose all some count upFrom firstOr highest sumsFrom reading frameOf bytesOf valueOf wordAt at put lowestOf highestListed indexOf someListed round nextListed numbered oweAll relisted arePool address setupFits recordFits areApart areNumbered tableFits nodeList sameByte sameList toBoard ownHeader signed isAck heardAfterOffer heardAfterList heardAfterForward heardAfterReturn phaseOf standOf phaseFits holdFits fits startOf joinOf turnIn receiveIn quietIn given played rows
 all-given = refl

@@ -4,12 +4,16 @@ use native.Mathlib.Omega.{arith}
 use mathlib.Core.Path.{_≡_, refl, sym, ap, subst, _∙_}
 use mathlib.Core.Bool.{Bool, true, false}
 use mathlib.Core.List.{List}
+use lib.ListN.{length}
 use Rattle.ground.specs.Choose.{choose}
 use Rattle.ground.specs.Bytes.{laid}
 use Rattle.refusal.specs.declared.Refusal.{Refusal}
 use Rattle.board.specs.declared.Node.{Node}
-use Rattle.board.specs.Change.{oweAll}
+use Rattle.board.specs.Index.{Numbered}
+use Rattle.board.specs.Change.{oweAll, relisted}
 use Rattle.board.proofs.Positions.{put-zero}
+use Rattle.board.proofs.Changes.{put-length}
+use Rattle.board.proofs.Numbered.{relisted-again}
 use Rattle.coordinator.specs.declared.State.{State}
 use Rattle.coordinator.specs.declared.Coordinator.{Coordinator}
 use Rattle.coordinator.specs.State.{stateOf, stated, composed}
@@ -31,10 +35,14 @@ module _ (b : List ℕ) (c : Coordinator) (t : List Node) {m : Move} (position :
   unfolding choose
   makes-edit h = rw h refl
 
-  -- and the list owed to all
-  pub makes-owed : {x : Change} → x ≡ changing m position e true a written joined dropped → applied x b c t ≡ leaving (moved m b c) (oweAll (editedAt t position e)) (told a) written joined dropped
+  -- and who is listed, or as what, another than before
+  pub makes-relisted : {x : Change} → x ≡ changing m position e true a written joined dropped → applied x b c t ≡ leaving (moved m b c) (relisted (editedAt t position e)) (told a) written joined dropped
   unfolding choose
-  makes-owed h = rw h refl
+  makes-relisted h = rw h refl
+
+  -- where stored is counted afterwards, the list owed to all and nothing else
+  pub makes-owed : {x : Change} → length t ≡ 40 → Numbered (editedAt t position e) → x ≡ changing m position e true a written joined dropped → applied x b c t ≡ leaving (moved m b c) (oweAll (editedAt t position e)) (told a) written joined dropped
+  makes-owed forty stored h = makes-relisted h ∙ ap (λ (u : List Node). leaving (moved m b c) u (told a) written joined dropped) (relisted-again (editedAt t position e) (put-length t position _ ∙ forty) stored)
 
 -- no record edited
 pub edits-none : (t : List Node) (e : Edit) → editedAt t 0 e ≡ t

@@ -10,7 +10,7 @@ use Rattle.frame.specs.Frame.{byte, lengthByte}
 use Rattle.board.specs.declared.Node.{Node}
 use Rattle.board.specs.Node.{none}
 use Rattle.board.specs.Table.{at, put}
-use Rattle.board.specs.Change.{joinedNode, owe, unmarked, heard, missed, renewed, oweAll}
+use Rattle.board.specs.Change.{joinedNode, owe, unmarked, heard, missed, renewed, relisted}
 use Rattle.coordinator.specs.declared.Phase.the-variants.{Resting}
 use Rattle.coordinator.specs.declared.Head.{Head}
 use Rattle.coordinator.specs.declared.State.{State}
@@ -105,9 +105,9 @@ changedFrom s x b c = composed (c .setup) (stateOf (moved (x .moves) b (rested (
 abbrev pub editedAt : List Node → ℕ → Edit → List Node
 editedAt t p e = put t p (edited e (at t p))
 
--- the records once a change is made
+-- the records once a change is made; where all are owed the list every index is counted anew, which changes none where no type has changed (02, C-13)
 abbrev pub amended : Change → List Node → List Node
-amended x t = choose (x .owe) (oweAll (editedAt t (x .position) (x .edit))) (editedAt t (x .position) (x .edit))
+amended x t = choose (x .owe) (relisted (editedAt t (x .position) (x .edit))) (editedAt t (x .position) (x .edit))
 
 -- what is shown of a change that is made
 abbrev pub applied : Change → List ℕ → Coordinator → List Node → Shown

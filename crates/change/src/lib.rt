@@ -47,7 +47,7 @@ pub enum Move {
 }
 
 // What a step decides on. `ended` says that an exchange by which a board joins is over before the coordinator moves, `owe`
-// that the list is owed to every listed board once the record at the position is edited.
+// that once the record at the position is edited every index is counted anew and the list is owed to every listed board.
 pub struct Change {
     pub ended: bool,
     pub position: usize,

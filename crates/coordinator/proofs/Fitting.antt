@@ -246,7 +246,7 @@ module _ (c : Coordinator) (t : List Node) where
 
   -- what fit means makes the test hold
   pub fit-passes : Fit c t → fits c t ≡ true
-  fit-passes f = fits-of (f .table .forty) (setup-passes (c .setup) (f .setup)) (table-passes (c .setup .k) t (f .table)) (phase-passes t (c .kept) (phaseOf (c .stand)) (phase-known (c .stand) (f .known)) (f .boards) (f .kept)) (seek-passes (phaseOf (c .stand)) (c .setup .k) (c .found) (f .stake)) (f .searched) (hold-passes (c .held) t (f .table .forty) (f .held)) (f .last)
+  fit-passes f = fits-of (f .table .boards .forty) (setup-passes (c .setup) (f .setup)) (table-passes (c .setup .k) t (f .table)) (phase-passes t (c .kept) (phaseOf (c .stand)) (phase-known (c .stand) (f .known)) (f .boards) (f .kept)) (seek-passes (phaseOf (c .stand)) (c .setup .k) (c .found) (f .stake)) (f .searched) (hold-passes (c .held) t (f .table .boards .forty) (f .held)) (f .last)
 
   module _ (h : fits c t ≡ true) where
     opened : Parts (eqb (length t) 40) (setupFits (c .setup)) (tableFits (c .setup .k) t) (phaseFits (phaseOf (c .stand)) t (c .kept)) (seekFits (phaseOf (c .stand)) (c .setup .k) (c .found)) (leb (c .searched) 1) (holdFits (c .held) t) (leb (c .last) (c .setup .k))
@@ -326,7 +326,7 @@ module _ (c : Coordinator) (t : List Node) (h : fits c t ≡ true) where
   board-listed p l = record { listed = l; from = here .from; upTo = here .upTo; few = fit-told c t h .setup .pool .upTo }
     where
       here : Position (c .setup .k) p
-      here = fit-told c t h .table .within p (listed-told t p l)
+      here = fit-told c t h .table .boards .within p (listed-told t p l)
 
   -- the boards that the phase names, and what is kept for them
 

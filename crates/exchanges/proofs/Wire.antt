@@ -14,7 +14,7 @@ use Rattle.frame.specs.declared.Header.{Header}
 use Rattle.frame.specs.Frame.{frameOf}
 use Rattle.frame.proofs.RoundTrip.{reads-back}
 use Rattle.board.specs.declared.Node.{Node}
-use Rattle.board.specs.Wanted.{indexOf}
+use Rattle.board.specs.Table.{at}
 use Rattle.board.specs.Round.{nextListed}
 use Rattle.setup.specs.declared.Setup.{Setup}
 use Rattle.message.specs.Message.{toBoard, ownHeader, broadcastHeader, discoveryHeader, everyKind, offerCode}
@@ -60,7 +60,7 @@ module _ (c : Coordinator) (t : List Node) where
       go false = frame-told _ _ _ _ (signed-small (c .setup) offerCode) refl refl
 
   -- a forward and a return
-  forward-told : (b q : ℕ) → Request (c .kept) → Tells (sent (dueCarried c t b Forward q (indexOf t q)))
+  forward-told : (b q : ℕ) → Request (c .kept) → Tells (sent (dueCarried c t b Forward q (at t q .index)))
   unfolding choose toBoard
   forward-told b q m = frame-told _ _ _ _ (omega (arith, length-take (c .kept .length) (c .kept .payload), m .payload)) refl (both (leb 1 (c .kept .message)) (leb (c .kept .message) 127) (le-leb _ _ (m .message .from)) (le-leb _ _ (m .message .upTo)))
 

@@ -30,6 +30,12 @@ pub unchosen {ℓ} : {A : Type ℓ} (a b : A) → choose false a b ≡ b
 unfolding choose
 unchosen a b = refl
 
+-- what is made of a choice is a choice of what is made of each
+pub of-choice {ℓ κ} : {A : Type ℓ} {B : Type κ} (f : A → B) (t : Bool) (a b : A) → f (choose t a b) ≡ choose t (f a) (f b)
+unfolding choose
+of-choice f true a b = refl
+of-choice f false a b = refl
+
 pub and-yes : (a b x : Bool) → a ≡ true → x ≡ b → x ≡ (a && b)
 and-yes a b x h e = rw h e
 

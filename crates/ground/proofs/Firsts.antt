@@ -5,10 +5,13 @@ use native.Mathlib.Decide.{ℕ-discrete, decLt}
 use mathlib.Core.Path.{_≡_, refl, ap, _∙_, sym}
 use mathlib.Core.Logic.{_⊎_, inl, inr}
 use mathlib.Core.List.{List, [], _∷_, _++_}
-use mathlib.Core.Bool.{Bool, true, false, false≢true}
+use mathlib.Core.Bool.{Bool, true, false, _&&_, false≢true}
+use lib.Dec.{eqb}
+use borrow.Author.Tests.{eq-eqb, ne-eqb}
 use borrow.Author.Needs.{needs}
 use Rattle.ground.specs.Choose.{choose}
 use Rattle.ground.specs.Below.{upFrom, firstOr}
+use Rattle.ground.proofs.Choices.{choose-yes, choose-no, both, not-left, not-right}
 
 upFrom-more : (a n : ℕ) → 0 < n → upFrom a n ≡ a ∷ upFrom (a + 1) (n - 1)
 unfolding upFrom
@@ -122,3 +125,19 @@ none-is d p a n h = go (first-case d p a n)
     go : FirstCase d p a n (firstOr d p (upFrom a n)) → firstOr d p (upFrom a n) ≡ d
     go (inl (none, e)) = e
     go (inr f) = absurd (false≢true (sym (h _ (f .from) (f .within)) ∙ f .passes))
+
+-- the first that passes, with one number more
+pub first-more : (p : ℕ → Bool) (i : ℕ) → firstOr 0 p (upFrom 1 (suc i)) ≡ choose (eqb (firstOr 0 p (upFrom 1 i)) 0 && p (suc i)) (suc i) (firstOr 0 p (upFrom 1 i))
+first-more p i = go (first-case 0 p 1 i) (p (suc i)) refl
+  where
+    y : ℕ
+    y = firstOr 0 p (upFrom 1 i)
+
+    go : FirstCase 0 p 1 i y → (b : Bool) → p (suc i) ≡ b → firstOr 0 p (upFrom 1 (suc i)) ≡ choose (eqb y 0 && p (suc i)) (suc i) y
+    go (inl (none, e)) true h = first-is 0 p 1 (suc i) (suc i) (record { from = omega arith; within = omega arith; passes = h; before = λ j a b. none j a (omega arith) }) ∙ choose-yes _ _ _ _ (both (eqb y 0) (p (suc i)) (eq-eqb y 0 e) h) refl
+    go (inl (none, e)) false h = none-is 0 p 1 (suc i) (λ j a b. last j a b (ℕ-discrete j (suc i))) ∙ sym e ∙ choose-no _ _ _ _ (not-right (eqb y 0) (p (suc i)) h) refl
+      where
+        last : (j : ℕ) → 1 ≤ j → j < 1 + suc i → Dec (j ≡ suc i) → p j ≡ false
+        last j a b (yes q) = ap p q ∙ h
+        last j a b (no ne) = none j a (omega arith)
+    go (inr f) b h = first-is 0 p 1 (suc i) y (record { from = f .from; within = omega (arith, f .within); passes = f .passes; before = f .before }) ∙ choose-no _ _ _ _ (not-left (eqb y 0) (p (suc i)) (ne-eqb y 0 (λ z. omega (arith, z, f .from)))) refl

@@ -11,14 +11,31 @@ use borrow.Author.Needs.{needs}
 pub front-none : (f o : List ℕ) → o ≡ take 0 f ++ drop 0 o
 front-none f o = refl
 
-front : (f o : List ℕ) (i : ℕ) → i < length f → length f ≤ length o → set (take i f ++ drop i o) i (getD f i 0) ≡ take (suc i) f ++ drop (suc i) o
-front [] o i h k = absurd (let z : ⊥ = omega arith in z)
-front (x ∷ f) [] i h k = absurd (let z : ⊥ = omega arith in z)
-front (x ∷ f) (y ∷ o) zero h k = refl
-front (x ∷ f) (y ∷ o) (suc i) h k = ap (λ (l : List ℕ). x ∷ l) (front f o i (omega arith) (omega arith))
+module _ {A : Type 0} (d : A) where
+  -- one element more is copied
+  pub front-more : (f o : List A) (i : ℕ) → i < length f → length f ≤ length o → set (take i f ++ drop i o) i (getD f i d) ≡ take (suc i) f ++ drop (suc i) o
+  front-more [] o i h k = absurd (let z : ⊥ = omega arith in z)
+  front-more (x ∷ f) [] i h k = absurd (let z : ⊥ = omega arith in z)
+  front-more (x ∷ f) (y ∷ o) zero h k = refl
+  front-more (x ∷ f) (y ∷ o) (suc i) h k = ap (λ (l : List A). x ∷ l) (front-more f o i (omega arith) (omega arith))
+
+  -- and stands till then as it was
+  pub front-next : (f o : List A) (i : ℕ) → i ≤ length f → i < length o → getD (take i f ++ drop i o) i d ≡ getD o i d
+  front-next f o zero h l = refl
+  front-next [] o (suc i) h l = absurd (let z : ⊥ = omega arith in z)
+  front-next (x ∷ f) [] (suc i) h l = absurd (let z : ⊥ = omega arith in z)
+  front-next (x ∷ f) (y ∷ o) (suc i) h l = front-next f o i (omega arith) (omega arith)
+
+-- what both lists agree in is as it was, however much is copied
+pub front-alike : {A B : Type 0} (g : A → B) (f o : List A) (i : ℕ) → map g f ≡ map g o → map g (take i f ++ drop i o) ≡ map g o
+front-alike g f o zero e = refl
+front-alike g [] [] (suc i) e = refl
+front-alike g [] (y ∷ o) (suc i) e = absurd (let z : ⊥ = omega (arith, ap length e) in z)
+front-alike g (x ∷ f) [] (suc i) e = absurd (let z : ⊥ = omega (arith, ap length e) in z)
+front-alike {A} {B} g (x ∷ f) (y ∷ o) (suc i) e = λ j. ap (λ (l : List B). getD l 0 (g x)) e j ∷ front-alike g f o i (ap (drop 1) e) j
 
 pub front-step : (f o u : List ℕ) (i : ℕ) → u ≡ take i f ++ drop i o → i < length f → length f ≤ length o → set u i (getD f i 0) ≡ take (i + 1) f ++ drop (i + 1) o
-front-step f o u i e h k = rw (e, add-one) (front f o i h k)
+front-step f o u i e h k = rw (e, add-one) (front-more 0 f o i h k)
 
 pub front-end : (f o u : List ℕ) (i : ℕ) → u ≡ take i f ++ drop i o → i ≤ length f → length f ≤ i → u ≡ f ++ drop (length f) o
 front-end f o u i e h k = e ∙ rw (let q : i ≡ length f = omega arith in q) (rw (take-length f) refl)

@@ -84,6 +84,18 @@ all-past p m (suc n) l h = go (λ l′. all-past p m n l′ (λ i a b. h i a (om
     go r (yes e) = ap (all p) e
     go r (no ne) = r (omega arith) ∙ rw (h n (omega arith) (omega arith)) (kept (all p n))
 
+-- two tests of each number below a bound
+pub all-both : (p q : ℕ → Bool) (n : ℕ) → all (λ i. p i && q i) n ≡ (all p n && all q n)
+unfolding all
+all-both p q zero = refl
+all-both p q (suc n) = ap (λ (b : Bool). b && (p n && q n)) (all-both p q n) ∙ four (all p n) (all q n) (p n) (q n)
+  where
+    four : (a b c d : Bool) → (a && b && (c && d)) ≡ (a && c && (b && d))
+    four true true c d = refl
+    four true false true d = refl
+    four true false false d = refl
+    four false b c d = refl
+
 -- what holds at one number makes a test of some
 pub some-of : (p : ℕ → Bool) (n i : ℕ) → i < n → p i ≡ true → some p n ≡ true
 unfolding some

@@ -1,9 +1,9 @@
--- The numbers from a on: how many, and which stands where; and what a function makes of them.
+-- The numbers from a on: how many, and which stands where; and what a function makes of them. One value again and again.
 use Prim.Native.Nat.{ℕ, zero, suc, _+_, _<_}
 use native.Mathlib.Omega.{arith}
 use mathlib.Core.Path.{_≡_, refl, ap, _∙_}
 use mathlib.Core.List.{map}
-use lib.ListN.{length, getD}
+use lib.ListN.{length, getD, replicate}
 use Rattle.ground.specs.Below.{upFrom}
 
 pub run-length : (a n : ℕ) → length (upFrom a n) ≡ n
@@ -22,3 +22,9 @@ unfolding upFrom
 run-map-at f a zero i d h = absurd (let z : ⊥ = omega arith in z)
 run-map-at f a (suc n) zero d h = ap f (let e : a ≡ a + 0 = omega arith in e)
 run-map-at f a (suc n) (suc i) d h = run-map-at f (a + 1) n i d (omega arith) ∙ ap f (let e : a + 1 + i ≡ a + suc i = omega arith in e)
+
+-- a list of one value has it everywhere, and so has what is past its end
+pub run-same {ℓ} : {A : Type ℓ} (a : A) (n i : ℕ) → getD (replicate n a) i a ≡ a
+run-same a zero i = refl
+run-same a (suc n) zero = refl
+run-same a (suc n) (suc i) = run-same a n i

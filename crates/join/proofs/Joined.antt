@@ -1,7 +1,7 @@
 -- What a join does: the address of a newcomer is nobody's; an accepted join lists the board at a position from 1 to k; a board that comes back has its position again, and the type that it now gives (01, "Join"; 02, C-12).
 use Prim.Native.Nat.{ℕ}
 use native.Mathlib.Omega.{arith}
-use mathlib.Core.Path.{_≡_, sym, ap, _∙_}
+use mathlib.Core.Path.{_≡_, ap, subst, _∙_}
 use mathlib.Core.Bool.{true, not}
 use mathlib.Core.List.{List}
 use lib.Dec.{eqb}
@@ -9,10 +9,11 @@ use borrow.Author.Tests.{eqb-false, not-false}
 use Rattle.ground.proofs.Choices.{and-left}
 use Rattle.refusal.proofs.Rules.{Passed}
 use Rattle.board.specs.declared.Node.{Node}
-use Rattle.board.specs.Node.{isListed, isKind}
+use Rattle.board.specs.Node.{isKind}
 use Rattle.board.specs.Table.{at, listedAt}
-use Rattle.board.specs.Change.{joinedNode, owe}
-use Rattle.board.proofs.Changes.{at-put, at-owe-all}
+use Rattle.board.specs.Change.{joinedNode}
+use Rattle.board.proofs.Changes.{SameBoard, at-put}
+use Rattle.board.proofs.Numbered.{relisted-keeps}
 use Rattle.setup.specs.Setup.{address}
 use Rattle.setup.specs.Fitness.{Position, Listed}
 use Rattle.setup.proofs.Apart.{newcomer-apart}
@@ -54,17 +55,17 @@ module _ (c : Coordinator) (t : List Node) (kind mac session : ℕ) (accepted : 
   within : Position (c .setup .k) (chosen t (c .setup .k) mac)
   within = chosen-within t (c .setup .k) mac (eqb-false (chosen t (c .setup .k) mac) 0 (rules .1 .1 .1 .1 .1 .0))
 
-  -- what stands at the position afterwards
-  joined-record : at (joinedAs c t kind mac session .nodes) (chosen t (c .setup .k) mac) ≡ owe (joinedNode kind mac session)
-  joined-record = at-owe-all _ (chosen t (c .setup .k) mac) ∙ ap owe (at-put t (chosen t (c .setup .k) mac) _ (within .from) (omega (arith, fit .table .forty, within .upTo, fit .setup .pool .upTo)))
+  -- whose record stands at the position afterwards
+  joined-board : SameBoard (at (joinedAs c t kind mac session .nodes) (chosen t (c .setup .k) mac)) (joinedNode kind mac session)
+  joined-board = subst (SameBoard _) (at-put t (chosen t (c .setup .k) mac) _ (within .from) (omega (arith, fit .table .boards .forty, within .upTo, fit .setup .pool .upTo))) (relisted-keeps _ (chosen t (c .setup .k) mac))
 
   pub joined-listed : ListedAs (c .setup .k) mac (joinOf c t kind mac session)
   joined-listed =
       rw (join-passed c t kind mac session rules)
       (record {
         position = within;
-        listed = ap isListed joined-record ∙ and-left (not (eqb kind 0)) _ (not-false (isKind kind) (rules .1 .0));
-        mac = ap (λ (n : Node). n .mac) joined-record;
+        listed = ap (λ (n : ℕ). not (eqb n 0)) (joined-board .kind) ∙ and-left (not (eqb kind 0)) _ (not-false (isKind kind) (rules .1 .0));
+        mac = joined-board .mac;
       })
 
   pub came-back : (p : ℕ) → Listed t p → at t p .mac ≡ mac → CameBack p kind session (joinOf c t kind mac session)
@@ -72,13 +73,13 @@ module _ (c : Coordinator) (t : List Node) (kind mac session : ℕ) (accepted : 
       rw (join-passed c t kind mac session rules)
       (record {
         position = there;
-        kind = ap (λ (n : Node). n .kind) after;
-        session = ap (λ (n : Node). n .session) after;
-        misses = ap (λ (n : Node). n .misses) after;
+        kind = after .kind;
+        session = after .session;
+        misses = after .misses;
       })
     where
       there : chosen t (c .setup .k) mac ≡ p
       there = chosen-own t (c .setup .k) mac (fit .setup .pool .upTo) (fit .table) p l m
 
-      after : at (joinedAs c t kind mac session .nodes) p ≡ owe (joinedNode kind mac session)
-      after = ap (at (joinedAs c t kind mac session .nodes)) (sym there) ∙ joined-record
+      after : SameBoard (at (joinedAs c t kind mac session .nodes) p) (joinedNode kind mac session)
+      after = subst (λ (q : ℕ). SameBoard (at (joinedAs c t kind mac session .nodes) q) (joinedNode kind mac session)) there joined-board

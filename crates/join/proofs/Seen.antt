@@ -8,20 +8,20 @@ use borrow.Author.Tests.{ltb-true}
 use Rattle.ground.proofs.Choices.{and-left}
 use Rattle.board.specs.declared.Node.{Node}
 use Rattle.board.specs.Node.{isMac}
-use Rattle.board.specs.Columns.{kindsOf, marksOf, macsOf}
+use Rattle.board.specs.Columns.{kindsOf, macsOf}
 use Rattle.board.proofs.SameKinds.{kinds-free}
 use Rattle.board.proofs.Columns.{lowest-of-mac}
 use Rattle.coordinator.specs.declared.Coordinator.{Coordinator}
 use Rattle.look.specs.declared.Seen.{Seen}
 use Rattle.look.specs.Seen.{Saw}
-use Rattle.look.proofs.Seeing.{fit-blanks, kinds-seen, mark-seen}
+use Rattle.look.proofs.Seeing.{fit-blanks, kinds-seen}
 use Rattle.steps.specs.Join.{isBusy, chosen}
 use Rattle.join.specs.Parts.{busyIn, chosenIn}
 
 module _ {s : Seen} {c : Coordinator} {t : List Node} (saw : Saw s c t) where
   -- whether the panel is busy
-  pub busy-seen : {marks : List ℕ} {b : Bool} → marks ≡ marksOf t → b ≡ busyIn (s .state) (s .top) marks → b ≡ isBusy c t
-  busy-seen e b = b ∙ rw (saw .state, mark-seen saw e) refl
+  pub busy-seen : {b : Bool} → b ≡ busyIn (s .state) (s .owed) → b ≡ isBusy c t
+  busy-seen b = b ∙ rw (saw .state, saw .owed) refl
 
   -- the position for a MAC
   pub chosen-seen : {kinds macs : List ℕ} {n : ℕ} → kinds ≡ kindsOf t → macs ≡ macsOf t → (mac : ℕ) → n ≡ chosenIn kinds macs (s .setup .k) mac → isMac mac ≡ true → n ≡ chosen t (c .setup .k) mac

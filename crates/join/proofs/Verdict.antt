@@ -12,7 +12,7 @@ use Rattle.refusal.proofs.Rules.{Passed, passed, gave, ruled-through, refused a
 use Rattle.board.specs.declared.Node.{Node}
 use Rattle.board.specs.Node.{isMac}
 use Rattle.board.specs.Table.{put}
-use Rattle.board.specs.Change.{joinedNode, oweAll}
+use Rattle.board.specs.Change.{joinedNode, relisted}
 use Rattle.setup.specs.declared.Judged.{Judged}
 use Rattle.setup.specs.declared.Judged.the-variants.{Refused, Fine}
 use Rattle.setup.specs.Setup.{toldOf}
@@ -26,7 +26,7 @@ use Rattle.change.specs.declared.Edit.the-variants.{Joined}
 use Rattle.change.specs.declared.Move.the-variants.{Held}
 use Rattle.change.specs.declared.Change.{Change}
 use Rattle.change.specs.Change.{changing, applied}
-use Rattle.change.proofs.Making.{makes-owed}
+use Rattle.change.proofs.Making.{makes-relisted}
 
 module _ (c : Coordinator) (t : List Node) (kind mac session : ℕ) where
   -- a join that no rule refuses
@@ -47,8 +47,8 @@ module _ (c : Coordinator) (t : List Node) (kind mac session : ℕ) where
   -- the change that a join makes where no rule refuses it
   pub join-made : Passed (joinRules c t kind mac) → (p : List ℕ) {n : ℕ} → (isMac mac ≡ true → n ≡ chosen t (c .setup .k) mac) → {x : Change} → x ≡ changing Held n (Joined kind mac session) true Rest 0 n 0 → applied x p c t ≡ shows (joinOf c t kind mac session)
   join-made rules p {n} place h =
-      makes-owed p c t n (Joined kind mac session) Rest 0 n 0 h ∙
-      ap (λ (i : ℕ). leaving (holding c true) (oweAll (put t i (joinedNode kind mac session))) rests 0 i 0) (place (not-false (isMac mac) (rules .1 .1 .0))) ∙
+      makes-relisted p c t n (Joined kind mac session) Rest 0 n 0 h ∙
+      ap (λ (i : ℕ). leaving (holding c true) (relisted (put t i (joinedNode kind mac session))) rests 0 i 0) (place (not-false (isMac mac) (rules .1 .1 .0))) ∙
       sym (ap shows (join-passed rules))
 
   -- what a join says is the verdict of the rules

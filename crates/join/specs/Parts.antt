@@ -8,10 +8,10 @@ use lib.Dec.{ltb}
 use Rattle.ground.specs.Choose.{choose}
 use Rattle.refusal.specs.Refusal.{ruled, refuses, gives}
 use Rattle.board.specs.declared.Node.{Node}
-use Rattle.board.specs.declared.Wanted.the-variants.{Free, Kind}
+use Rattle.board.specs.declared.Wanted.the-variants.{Free}
 use Rattle.board.specs.Node.{isMac}
 use Rattle.board.specs.Wanted.{lowestOf}
-use Rattle.board.specs.Columns.{marksOf, typed, lowestIn}
+use Rattle.board.specs.Columns.{typed, lowestIn}
 use Rattle.setup.specs.declared.Judged.{Judged}
 use Rattle.setup.specs.Setup.{toldOf}
 use Rattle.coordinator.specs.declared.State.{State}
@@ -21,16 +21,16 @@ use Rattle.look.specs.declared.Seen.{Seen}
 use Rattle.look.specs.Seen.{Saw}
 use Rattle.steps.specs.Join.{isResting, chosen, joinRules}
 
--- a wait, a forward, return or list due, or an exchange by which a board joins, by the state and the marks up to the highest listed position (01, number 14; 02, C-11)
-abbrev pub busyIn : State → ℕ → List ℕ → Bool
-busyIn s top marks = not (isResting (phaseOf (s .stand))) || ltb 0 (lowestOf (typed marks) (Kind 1) top)
+-- a wait, a forward, return or list due, or an exchange by which a board joins, by the state and the lowest position owed the list (01, number 14; 02, C-11)
+abbrev pub busyIn : State → ℕ → Bool
+busyIn s owed = not (isResting (phaseOf (s .stand))) || ltb 0 owed
 
 -- the position for a MAC, by the types and the MACs: its own, or the lowest free one (01, "Join")
 abbrev pub chosenIn : List ℕ → List ℕ → ℕ → ℕ → ℕ
 chosenIn kinds macs k mac = choose (ltb 0 (lowestIn macs mac k)) (lowestIn macs mac k) (lowestOf (typed kinds) Free k)
 
 -- a verdict is that of the rules on a join past the first, for whatever fit coordinator and records this was seen of, where the position is that for the MAC (01, "Order")
-abbrev pub Judges : Seen → List ℕ → ℕ → ℕ → ℕ → Judged → Type 0
-Judges s marks kind mac position r =
-    (c : Coordinator) (t : List Node) → Saw s c t → marks ≡ marksOf t → (isMac mac ≡ true → position ≡ chosen t (c .setup .k) mac)
+abbrev pub Judges : Seen → ℕ → ℕ → ℕ → Judged → Type 0
+Judges s kind mac position r =
+    (c : Coordinator) (t : List Node) → Saw s c t → (isMac mac ≡ true → position ≡ chosen t (c .setup .k) mac)
     → toldOf r ≡ ruled (drop 1 (joinRules c t kind mac)) refuses (gives [])

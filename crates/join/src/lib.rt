@@ -10,7 +10,7 @@ use refusal::Refusal;
 use setup::Judged;
 ghost use mathlib.Core.Path.{_≡_};
 ghost use Rattle.board.specs.Node.{isKind};
-ghost use Rattle.look.specs.Seen.{OfColumns};
+ghost use Rattle.look.specs.Seen.{OfMacs};
 ghost use Rattle.steps.specs.Join.{isResting, joinOf};
 ghost use Rattle.change.specs.Decides.{Makes};
 ghost use Rattle.join.specs.Parts.{busyIn, chosenIn, Judges};
@@ -41,14 +41,14 @@ fn is_resting(phase: Phase) -> bool
     }
 }
 
-// The panel waits, a forward, a return or a list is due, or an exchange by which a board joins runs. A list is due to
-// nobody above the highest listed position.
-pub fn is_busy(state: State, top: usize, marks: &[u8; 40]) -> bool
-    ensures { λ r. ⌜ r ≡ busyIn state top (now (marks .entry)) ⌝ }
+// The panel waits, a forward, a return or a list is due, or an exchange by which a board joins runs. `owed` is the lowest
+// position to which the list is owed, 0 for none.
+pub fn is_busy(state: State, owed: usize) -> bool
+    ensures { λ r. ⌜ r ≡ busyIn state owed ⌝ }
 {
     let stand = state.stand;
     let phase = coordinator::phase_of(stand);
-    !is_resting(phase) | (0 < board::lowest_owed(marks, top))
+    !is_resting(phase) | (0 < owed)
 }
 
 // The position for a MAC: its own, or the lowest free one; 0 where there is none.
@@ -64,8 +64,8 @@ fn chosen(kinds: &[u8; 40], macs: &[u64; 40], k: usize, mac: u64) -> usize
 }
 
 // What a join of fit records is refused for, in the order of the numbers: 12 to 16, with the position for the MAC.
-fn judge(seen: Seen, marks: &[u8; 40], kind: u8, mac: u64, position: usize) -> Judged
-    ensures { λ r. ⌜ Judges seen (now (marks .entry)) kind mac position r ⌝ }
+fn judge(seen: Seen, kind: u8, mac: u64, position: usize) -> Judged
+    ensures { λ r. ⌜ Judges seen kind mac position r ⌝ }
 {
     let state = seen.state;
     if !is_kind(kind) {
@@ -74,7 +74,7 @@ fn judge(seen: Seen, marks: &[u8; 40], kind: u8, mac: u64, position: usize) -> J
     if !setup::is_mac(mac) {
         return Judged::Refused(Refusal::BadMac);
     }
-    if is_busy(state, seen.top, marks) {
+    if is_busy(state, seen.owed) {
         return Judged::Refused(Refusal::Busy);
     }
     if state.held == 1 {
@@ -86,21 +86,20 @@ fn judge(seen: Seen, marks: &[u8; 40], kind: u8, mac: u64, position: usize) -> J
     Judged::Fine
 }
 
-// A board joins, or joins again, perhaps as another type: its record begins anew. The list is then owed to every listed board, and further joins are held.
+// A board joins, or joins again, perhaps as another type: its record begins anew. Every index is then counted anew, the list owed to every listed board, and further joins are held.
 pub fn join(
     seen: Seen,
     kinds: &[u8; 40],
-    marks: &[u8; 40],
     macs: &[u64; 40],
     kind: u8,
     mac: u64,
     session: u64,
 ) -> Change
-    ensures { λ r. ⌜ Makes seen (OfColumns (now (kinds .entry)) (now (marks .entry)) (now (macs .entry))) (λ c t. joinOf c t kind mac session) r ⌝ }
+    ensures { λ r. ⌜ Makes seen (OfMacs (now (kinds .entry)) (now (macs .entry))) (λ c t. joinOf c t kind mac session) r ⌝ }
 {
     let setup = seen.setup;
     let position = chosen(kinds, macs, setup.k, mac);
-    match judge(seen, marks, kind, mac, position) {
+    match judge(seen, kind, mac, position) {
         Judged::Refused(refusal) => change::refusing(refusal),
         Judged::Fine => {
             let edit = Edit::Joined(kind, mac, session);

@@ -26,7 +26,7 @@ module _ (c : Coordinator) (t : List Node) (h : fits c t ≡ true) where
 
   module _ (b : ℕ) (l : listedAt t b ≡ true) where
     pub hear-stays : Stays (c .setup .k) t (hear t b)
-    hear-stays = put-stays (c .setup .k) t (table-fit c t h) b (heard (at t b)) (listed-told t b l) (heard-follows (at t b))
+    hear-stays = put-stays (c .setup .k) t (table-fit c t h) b (heard (at t b)) (listed-told t b l) (heard-follows (at t b)) refl
 
     -- with the session of its ACK
     pub hear-ack-stays : (session : ℕ) → Stays (c .setup .k) t (hearAck t b session)
@@ -35,7 +35,7 @@ module _ (c : Coordinator) (t : List Node) (h : fits c t ≡ true) where
       where
         go : (s : Bool) → Stays (c .setup .k) t (choose s (hear t b) (oweAll (put t b (renewed (heard (at t b)) session))))
         go true = hear-stays
-        go false = owe-stays (c .setup .k) t (put t b (renewed (heard (at t b)) session)) (put-stays (c .setup .k) t (table-fit c t h) b (renewed (heard (at t b)) session) (listed-told t b l) (renewed-follows (at t b) session))
+        go false = owe-stays (c .setup .k) t (put t b (renewed (heard (at t b)) session)) (put-stays (c .setup .k) t (table-fit c t h) b (renewed (heard (at t b)) session) (listed-told t b l) (renewed-follows (at t b) session) refl)
 
   -- a position at stake where the MAC is the record's, or nobody is heard
   pub hear-mac-stays : (p mac : ℕ) → Stays (c .setup .k) t (hearMac t p mac)

@@ -13,9 +13,9 @@ use Rattle.refusal.proofs.Rules.{Passed, each, by-rules}
 use Rattle.board.specs.declared.Node.{Node}
 use Rattle.board.specs.Node.{isKind, isMac}
 use Rattle.board.specs.Table.{at, put, listedAt}
-use Rattle.board.specs.Change.{joinedNode, oweAll}
-use Rattle.board.proofs.Changes.{owe-all-listed}
-use Rattle.setup.specs.Fitness.{Position, Listed, InRanges, FitTable}
+use Rattle.board.specs.Change.{joinedNode, relisted}
+use Rattle.board.proofs.Numbered.{relisted-listed}
+use Rattle.setup.specs.Fitness.{Position, Listed, InRanges, FitBoards, FitTable}
 use Rattle.setup.proofs.Pools.{mac-told}
 use Rattle.setup.proofs.Tables.{table-passes}
 use Rattle.coordinator.specs.declared.Phase.{Phase}
@@ -29,12 +29,12 @@ use Rattle.coordinator.proofs.Fitting.{listed-told, listed-some, fits-of, fits-
 use Rattle.steps.specs.After.{After, refused}
 use Rattle.steps.specs.Join.{isResting, chosen, joinRules, joinOf}
 use Rattle.steps.proofs.Chosen.{chosen-within, chosen-own}
-use Rattle.lasting.proofs.Tables.{join-fit, join-listed, owe-all-fit}
+use Rattle.lasting.proofs.Tables.{join-boards, join-listed, relisted-fit}
 use Rattle.lasting.proofs.Keeps.{Keeps, accepted-keeps, rules-keep, some-same, table-fit}
 
--- a board's record put at a position: the table is fit, and the board is listed there
+-- a board's record put at a position: the boards are fit, and it is listed there
 abbrev Placed : ℕ → List Node → ℕ → Node → Type 0
-Placed k t p n = (FitTable k (put t p n)) × (listedAt (put t p n) p ≡ true)
+Placed k t p n = (FitBoards k (put t p n)) × (listedAt (put t p n) p ≡ true)
 
 module _ (c : Coordinator) (t : List Node) (h : fits c t ≡ true) (kind mac session : ℕ) (isOne : isKind kind ≡ true) (hasMac : isMac mac ≡ true) where
   new-ranges : InRanges (joinedNode kind mac session)
@@ -49,7 +49,7 @@ module _ (c : Coordinator) (t : List Node) (h : fits c t ≡ true) (kind mac ses
 
   -- a board that joins for the first time, and one that comes back: its MAC is nobody else's
   placed : eqb (chosen t (c .setup .k) mac) 0 ≡ false → Placed (c .setup .k) t (chosen t (c .setup .k) mac) (joinedNode kind mac session)
-  placed full = (join-fit (c .setup .k) t f _ _ p inside new-ranges own, join-listed (c .setup .k) t f _ _ p inside new-ranges own)
+  placed full = (join-boards (c .setup .k) t f _ _ p inside new-ranges own, join-listed (c .setup .k) t f _ _ p inside new-ranges own)
     where
       f : FitTable (c .setup .k) t
       f = table-fit c t h
@@ -61,7 +61,7 @@ module _ (c : Coordinator) (t : List Node) (h : fits c t ≡ true) (kind mac ses
       p = chosen-within t (c .setup .k) mac (eqb-false (chosen t (c .setup .k) mac) 0 full)
 
       inside : chosen t (c .setup .k) mac ≤ length t
-      inside = omega (arith, p .upTo, few, f .forty)
+      inside = omega (arith, p .upTo, few, f .boards .forty)
 
       own : (q : ℕ) → Listed t q → at t q .mac ≡ mac → q ≡ chosen t (c .setup .k) mac
       own q l m = sym (chosen-own t (c .setup .k) mac few f q l m)
@@ -76,13 +76,13 @@ resting-fits (ReturnDue b) t m e = absurd (false≢true e)
 resting-fits (Seeking p part) t m e = refl
 resting-fits Unknown t m e = e
 
--- the list is owed to all, and joins are held: the board that joined is listed
-joined-fits : (c : Coordinator) (t : List Node) → fits c t ≡ true → isResting (phaseOf (c .stand)) ≡ true → (p : ℕ) (n : Node) → Placed (c .setup .k) t p n → fits (holding c true) (oweAll (put t p n)) ≡ true
+-- every index is counted anew, the list is owed to all, and joins are held: the board that joined is listed
+joined-fits : (c : Coordinator) (t : List Node) → fits c t ≡ true → isResting (phaseOf (c .stand)) ≡ true → (p : ℕ) (n : Node) → Placed (c .setup .k) t p n → fits (holding c true) (relisted (put t p n)) ≡ true
 unfolding holdFits
-joined-fits c t h rest p n (f, l) = fits-of (holding c true) (oweAll (put t p n)) (fit .forty) (fits-setup c t h) (table-passes (c .setup .k) (oweAll (put t p n)) fit) (resting-fits (phaseOf (c .stand)) (oweAll (put t p n)) (c .kept) rest) (fits-seek c t h) (fits-searched c t h) (some-same (put t p n) (oweAll (put t p n)) (owe-all-listed (put t p n)) ∙ listed-some (put t p n) p (f .forty) l) (fits-last c t h)
+joined-fits c t h rest p n (f, l) = fits-of (holding c true) (relisted (put t p n)) (fit .boards .forty) (fits-setup c t h) (table-passes (c .setup .k) (relisted (put t p n)) fit) (resting-fits (phaseOf (c .stand)) (relisted (put t p n)) (c .kept) rest) (fits-seek c t h) (fits-searched c t h) (some-same (put t p n) (relisted (put t p n)) (relisted-listed (put t p n)) ∙ listed-some (put t p n) p (f .forty) l) (fits-last c t h)
   where
-    fit : FitTable (c .setup .k) (oweAll (put t p n))
-    fit = owe-all-fit (c .setup .k) (put t p n) f
+    fit : FitTable (c .setup .k) (relisted (put t p n))
+    fit = relisted-fit (c .setup .k) (put t p n) f
 
 -- what is busy neither by the one test nor by the other passes the first
 pub idle : (a b : Bool) → (not a || b) ≡ false → a ≡ true
@@ -93,7 +93,7 @@ pub join-keeps : (c : Coordinator) (t : List Node) (kind mac session : ℕ) → 
 unfolding joinOf
 join-keeps c t kind mac session = rules-keep c t (drop 1 (joinRules c t kind mac)) refl _ (λ h passed. accepted-keeps c t _ (joined h passed) refl refl)
   where
-    joined : fits c t ≡ true → Passed (drop 1 (joinRules c t kind mac)) → fits (holding c true) (oweAll (put t (chosen t (c .setup .k) mac) (joinedNode kind mac session))) ≡ true
+    joined : fits c t ≡ true → Passed (drop 1 (joinRules c t kind mac)) → fits (holding c true) (relisted (put t (chosen t (c .setup .k) mac) (joinedNode kind mac session))) ≡ true
     joined h passed = joined-fits c t h (idle (isResting (phaseOf (c .stand))) _ (passed .1 .1 .0)) _ _ (placed c t h kind mac session (not-false _ (passed .0)) (not-false _ (passed .1 .0)) (passed .1 .1 .1 .1 .0))
 
 -- who joined is within the ranges, at a position from 1 to k

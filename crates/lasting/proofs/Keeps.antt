@@ -87,8 +87,8 @@ pub record Stays (k : ℕ) (t u : List Node) : Type 0 where
   pub fit : FitTable k u
   pub listed : (p : ℕ) → listedAt u p ≡ listedAt t p
 
-pub put-stays : (k : ℕ) (t : List Node) → FitTable k t → (p : ℕ) (n : Node) → Listed t p → Follows (at t p) n → Stays k t (put t p n)
-put-stays k t f p n l s = record { fit = put-fit k t f p n l s; listed = put-listed k t f p n l s }
+pub put-stays : (k : ℕ) (t : List Node) → FitTable k t → (p : ℕ) (n : Node) → Listed t p → Follows (at t p) n → n .index ≡ at t p .index → Stays k t (put t p n)
+put-stays k t f p n l s same = record { fit = put-fit k t f p n l s same; listed = put-listed k t f p n l s }
 
 pub owe-stays : (k : ℕ) (t u : List Node) → Stays k t u → Stays k t (oweAll u)
 owe-stays k t u s = record { fit = owe-all-fit k u (s .fit); listed = λ p. owe-all-listed u p ∙ s .listed p }
@@ -125,4 +125,4 @@ module _ (c : Coordinator) (t : List Node) (h : fits c t ≡ true) where
   -- another phase and message over a table where the same boards are listed
   pub phase-keeps : (u : List Node) → Stays (c .setup .k) t u → {p : Phase} (m : Kept) → Made p → phaseFits p t m ≡ true → seekFits p (c .setup .k) (c .found) ≡ true → fits (withPhase (keeping c m) p) u ≡ true
   phase-keeps u s {p} m made e at-stake =
-      fits-of (withPhase (keeping c m) p) u (s .fit .forty) (fits-setup c t h) (table-passes (c .setup .k) u (s .fit)) (rw (phase-back made) (phase-same t u (s .listed) p m e)) (rw (phase-back made) at-stake) (fits-searched c t h) (hold-same t u (s .listed) (c .held) (fits-hold c t h)) (fits-last c t h)
+      fits-of (withPhase (keeping c m) p) u (s .fit .boards .forty) (fits-setup c t h) (table-passes (c .setup .k) u (s .fit)) (rw (phase-back made) (phase-same t u (s .listed) p m e)) (rw (phase-back made) at-stake) (fits-searched c t h) (hold-same t u (s .listed) (c .held) (fits-hold c t h)) (fits-last c t h)

@@ -13,8 +13,8 @@ use Rattle.board.specs.declared.Node.{Node}
 use Rattle.board.specs.Node.{none}
 use Rattle.board.specs.Table.{at, put, listedAt}
 use Rattle.board.specs.Wanted.{someListed}
-use Rattle.board.specs.Change.{missed, oweAll}
-use Rattle.board.proofs.Changes.{owe-all-listed}
+use Rattle.board.specs.Change.{missed, relisted}
+use Rattle.board.proofs.Numbered.{relisted-listed}
 use Rattle.setup.specs.Fitness.{FitTable}
 use Rattle.setup.proofs.Tables.{table-passes}
 use Rattle.coordinator.specs.declared.Phase.{Phase}
@@ -28,7 +28,7 @@ use Rattle.coordinator.proofs.Fitting.{listed-told, awaited, fits-of, fits-setu
 use Rattle.coordinator.proofs.Changing.{with-phase-fits}
 use Rattle.steps.specs.After.{accepted, rests}
 use Rattle.steps.specs.Quiet.{droppedAt, missedAt, quietValue, quietRules, quietIn, quietOf}
-use Rattle.lasting.proofs.Tables.{missed-follows, clear-fit, owe-all-fit}
+use Rattle.lasting.proofs.Tables.{missed-follows, clear-boards, relisted-fit}
 use Rattle.lasting.proofs.Keeps.{Keeps, accepted-keeps, Stays, refused-keeps, rules-keep, put-stays, some-same, table-fit, phase-keeps}
 use Rattle.lasting.proofs.Seek.{seek-quiet-keeps}
 
@@ -43,24 +43,24 @@ hold-some held t u h s = rw s (go (eqb held 0) (eqb held 1) (someListed t) h)
     go false false x e = e
 
 module _ (c : Coordinator) (t : List Node) (h : fits c t ≡ true) (board : ℕ) (l : listedAt t board ≡ true) where
-  -- at rest, the board's record cleared and the list owed to all who remain
-  dropped-fits : (held : ℕ) → holdFits held (oweAll (put t board none)) ≡ true → fits (record { setup = c .setup; last = c .last; held = held; searched = c .searched; stand = withPhase c Resting .stand; kept = c .kept; found = c .found }) (oweAll (put t board none)) ≡ true
+  -- at rest, the board's record cleared, the indexes of all who remain counted anew and the list owed to them
+  dropped-fits : (held : ℕ) → holdFits held (relisted (put t board none)) ≡ true → fits (record { setup = c .setup; last = c .last; held = held; searched = c .searched; stand = withPhase c Resting .stand; kept = c .kept; found = c .found }) (relisted (put t board none)) ≡ true
   unfolding phaseFits
-  dropped-fits held s = fits-of _ (oweAll (put t board none)) (fit .forty) (fits-setup c t h) (table-passes (c .setup .k) (oweAll (put t board none)) fit) (rw (phase-back resting) refl) (rw (phase-back resting) refl) (fits-searched c t h) s (fits-last c t h)
+  dropped-fits held s = fits-of _ (relisted (put t board none)) (fit .boards .forty) (fits-setup c t h) (table-passes (c .setup .k) (relisted (put t board none)) fit) (rw (phase-back resting) refl) (rw (phase-back resting) refl) (fits-searched c t h) s (fits-last c t h)
     where
-      fit : FitTable (c .setup .k) (oweAll (put t board none))
-      fit = owe-all-fit (c .setup .k) (put t board none) (clear-fit (c .setup .k) t (table-fit c t h) board (listed-told t board l))
+      fit : FitTable (c .setup .k) (relisted (put t board none))
+      fit = relisted-fit (c .setup .k) (put t board none) (clear-boards (c .setup .k) t (table-fit c t h) board (listed-told t board l))
 
   dropped-keeps : Keeps c t (droppedAt c t board)
   unfolding choose holdFits
   dropped-keeps = go (someListed (put t board none)) refl
     where
-      go : (b : Bool) → someListed (put t board none) ≡ b → Keeps c t (record { coordinator = choose b (withPhase c Resting) (holding (withPhase c Resting) false); nodes = oweAll (put t board none); says = rests; bytes = []; joined = 0; dropped = board })
-      go true s = accepted-keeps c t _ (dropped-fits (c .held) (hold-some (c .held) t (oweAll (put t board none)) (fits-hold c t h) (some-same (put t board none) (oweAll (put t board none)) (owe-all-listed (put t board none)) ∙ s))) refl refl
+      go : (b : Bool) → someListed (put t board none) ≡ b → Keeps c t (record { coordinator = choose b (withPhase c Resting) (holding (withPhase c Resting) false); nodes = relisted (put t board none); says = rests; bytes = []; joined = 0; dropped = board })
+      go true s = accepted-keeps c t _ (dropped-fits (c .held) (hold-some (c .held) t (relisted (put t board none)) (fits-hold c t h) (some-same (put t board none) (relisted (put t board none)) (relisted-listed (put t board none)) ∙ s))) refl refl
       go false s = accepted-keeps c t _ (dropped-fits 0 refl) refl refl
 
   counted : ltb (at t board .misses) 2 ≡ true → Stays (c .setup .k) t (put t board (missed (at t board)))
-  counted m = put-stays (c .setup .k) t (table-fit c t h) board (missed (at t board)) (listed-told t board l) (missed-follows (at t board) (omega (arith, ltb-true (at t board .misses) 2 m)))
+  counted m = put-stays (c .setup .k) t (table-fit c t h) board (missed (at t board)) (listed-told t board l) (missed-follows (at t board) (omega (arith, ltb-true (at t board .misses) 2 m))) refl
 
   missed-keeps : Keeps c t (missedAt c t board)
   unfolding choose phaseFits

@@ -2,7 +2,7 @@
 use Prim.Native.Nat.{ℕ, _≤_}
 use native.Mathlib.Omega.{arith}
 use native.Mathlib.Decide.{ℕ-discrete}
-use mathlib.Core.Path.{_≡_, refl, sym, ap, _∙_}
+use mathlib.Core.Path.{_≡_, refl, sym, ap, subst, _∙_}
 use mathlib.Core.Logic.{_⊎_, inl, inr}
 use mathlib.Core.Bool.{Bool, true, false}
 use mathlib.Core.List.{List}
@@ -14,10 +14,15 @@ use Rattle.ground.proofs.Choices.{not-yes}
 use Rattle.board.specs.declared.Node.{Node}
 use Rattle.board.specs.Node.{none, isListed}
 use Rattle.board.specs.Table.{at, put, listedAt}
-use Rattle.board.specs.Change.{owe, unmarked, heard, missed, renewed, oweAll}
+use Rattle.board.specs.Wanted.{indexOf}
+use Rattle.board.specs.Index.{indexed}
+use Rattle.board.specs.Change.{owe, unmarked, heard, missed, renewed, oweAll, relisted}
 use Rattle.board.proofs.Positions.{listed-within}
-use Rattle.board.proofs.Changes.{put-length, at-put, at-put-other, at-owe-all, owe-all-length}
-use Rattle.setup.specs.Fitness.{Position, Listed, InRanges, FitTable}
+use Rattle.board.proofs.Index.{index-nobody}
+use Rattle.board.proofs.SameKinds.{SameKinds}
+use Rattle.board.proofs.Changes.{put-length, at-put, at-put-other}
+use Rattle.board.proofs.Numbered.{same-numbered, at-relisted, relisted-length, relisted-stored, relisted-again}
+use Rattle.setup.specs.Fitness.{Position, Listed, InRanges, FitBoards, FitTable}
 use Rattle.coordinator.proofs.Fitting.{listed-passes}
 
 -- one record
@@ -42,9 +47,10 @@ renewed-follows n session = record { kind = refl; mac = refl; misses = λ h. ome
 pub missed-follows : (n : Node) → n .misses ≤ 1 → Follows n (missed n)
 missed-follows n l = record { kind = refl; mac = refl; misses = λ h. omega arith; owed = λ h. h }
 
-owe-follows : (n : Node) → Follows n (owe n)
+-- the list owed and the index counted anew
+relist-follows : (n : Node) (index : ℕ) → Follows n (owe (indexed n index))
 unfolding choose
-owe-follows n = record { kind = refl; mac = refl; misses = λ h. h; owed = λ h. mark (isListed n) (n .owed) h }
+relist-follows n index = record { kind = refl; mac = refl; misses = λ h. h; owed = λ h. mark (isListed n) (n .owed) h }
   where
     mark : (b : Bool) (m : ℕ) → m ≤ 1 → choose b 1 m ≤ 1
     mark true m h = omega arith
@@ -60,7 +66,7 @@ Changed old new = (new ≡ none) ⊎ ((Follows old new) × (old ≡ none → new
 unchanged : (n : Node) → Changed n n
 unchanged n = inr (record { kind = refl; mac = refl; misses = λ h. h; owed = λ h. h }, λ e. e)
 
-module _ (k : ℕ) (t u : List Node) (size : length u ≡ length t) (kept : (p : ℕ) → Changed (at t p) (at u p)) (f : FitTable k t) where
+module _ (k : ℕ) (t u : List Node) (size : length u ≡ length t) (kept : (p : ℕ) → Changed (at t p) (at u p)) (f : FitBoards k t) where
   -- what is listed after the change was listed before, and is of the same board
   follows : (p : ℕ) → Listed u p → Follows (at t p) (at u p)
   follows p l = go (kept p)
@@ -79,9 +85,9 @@ module _ (k : ℕ) (t u : List Node) (size : length u ≡ length t) (kept : (p :
   blanks p (inl e) z = e
   blanks p (inr (s, b)) z = b (f .blank p (sym (s .kind) ∙ z))
 
-  -- a table whose every record is cleared, or keeps its board and stays in its ranges, stays fit
-  pub kept-fit : FitTable k u
-  kept-fit =
+  -- where every record is cleared, or keeps its board and stays in its ranges, the boards stay fit
+  kept-boards : FitBoards k u
+  kept-boards =
       record {
         forty = size ∙ f .forty;
         within = λ p l. f .within p (was-listed p l);
@@ -98,29 +104,48 @@ at-put-each P t p n from upTo q here other = go (ℕ-discrete q p)
     go (yes e) = rw (e, at-put t p n from upTo) (here e)
     go (no ne) = rw (at-put-other t p q n ne) (other ne)
 
-pub owe-all-fit : (k : ℕ) (t : List Node) → FitTable k t → FitTable k (oweAll t)
+-- every index counted anew and the list owed to all: where the boards are fit the table is
+pub relisted-fit : (k : ℕ) (t : List Node) → FitBoards k t → FitTable k (relisted t)
 unfolding choose
-owe-all-fit k t f = kept-fit k t (oweAll t) (owe-all-length t) (λ p. rw (at-owe-all t p) (inr (owe-follows (at t p), λ e. rw e refl))) f
+relisted-fit k t f = record { boards = kept-boards k t (relisted t) (relisted-length t) (λ p. rw (at-relisted t p) (inr (relist-follows (at t p) (indexOf t p), blank p))) f; numbered = relisted-stored t (f .forty) }
+  where
+    blank : (p : ℕ) → at t p ≡ none → owe (indexed (at t p) (indexOf t p)) ≡ none
+    blank p e = rw (e, ← index-nobody t p (ap (λ (n : Node). n .kind) e)) refl
+
+-- the list owed to all, with the indexes as they are
+pub owe-all-fit : (k : ℕ) (t : List Node) → FitTable k t → FitTable k (oweAll t)
+owe-all-fit k t f = subst (FitTable k) (relisted-again t (f .boards .forty) (f .numbered)) (relisted-fit k t (f .boards))
 
 module _ (k : ℕ) (t : List Node) (f : FitTable k t) where
   -- a listed position is one of the table
   listed-inside : (p : ℕ) → Listed t p → p ≤ length t
-  listed-inside p l = omega (arith, f .forty, listed-within t p (f .forty) (listed-passes t p l) .1)
+  listed-inside p l = omega (arith, f .boards .forty, listed-within t p (f .boards .forty) (listed-passes t p l) .1)
 
-  -- a board's record changed
-  pub put-fit : (p : ℕ) (n : Node) → Listed t p → Follows (at t p) n → FitTable k (put t p n)
-  put-fit p n l s = kept-fit k t (put t p n) (put-length t p n) (λ q. at-put-each (Changed (at t q)) t p n (f .within p l .from) (listed-inside p l) q (here q) (λ ne. unchanged (at t q))) f
+  -- the records after that of a listed board was replaced
+  put-each {ℓ} : (P : Node → Type ℓ) (p : ℕ) (n : Node) → Listed t p → (q : ℕ) → (q ≡ p → P n) → P (at t q) → P (at (put t p n) q)
+  put-each P p n l q here other = at-put-each P t p n (f .boards .within p l .from) (listed-inside p l) q here (λ ne. other)
+
+  -- replaced by one of the same board, or cleared
+  put-boards : (p : ℕ) (n : Node) → Listed t p → Changed (at t p) n → FitBoards k (put t p n)
+  put-boards p n l s = kept-boards k t (put t p n) (put-length t p n) (λ q. put-each (Changed (at t q)) p n l q (λ e. rw e s) (unchanged (at t q))) (f .boards)
+
+  -- a board's record changed, its index as it was
+  pub put-fit : (p : ℕ) (n : Node) → Listed t p → Follows (at t p) n → n .index ≡ at t p .index → FitTable k (put t p n)
+  put-fit p n l s same = record { boards = put-boards p n l (inr (s, λ z. absurd (l (ap (λ (m : Node). m .kind) z)))); numbered = same-numbered t (put t p n) kinds indexes (f .numbered) }
     where
-      here : (q : ℕ) → q ≡ p → Changed (at t q) n
-      here q e = rw e (inr (s, λ z. absurd (l (ap (λ (m : Node). m .kind) z))))
+      kinds : SameKinds (put t p n) t
+      kinds = record { kind = λ q. put-each (λ m. m .kind ≡ at t q .kind) p n l q (λ e. rw e (s .kind)) refl }
+
+      indexes : (q : ℕ) → at (put t p n) q .index ≡ at t q .index
+      indexes q = put-each (λ m. m .index ≡ at t q .index) p n l q (λ e. rw e same) refl
 
   -- and the same boards are listed
   pub put-listed : (p : ℕ) (n : Node) → Listed t p → Follows (at t p) n → (q : ℕ) → listedAt (put t p n) q ≡ listedAt t q
-  put-listed p n l s q = at-put-each (λ m. isListed m ≡ listedAt t q) t p n (f .within p l .from) (listed-inside p l) q (λ e. rw (e, s .kind) refl) (λ ne. refl)
+  put-listed p n l s q = put-each (λ m. isListed m ≡ listedAt t q) p n l q (λ e. rw (e, s .kind) refl) refl
 
   -- a board's record cleared
-  pub clear-fit : (p : ℕ) → Listed t p → FitTable k (put t p none)
-  clear-fit p l = kept-fit k t (put t p none) (put-length t p none) (λ q. at-put-each (Changed (at t q)) t p none (f .within p l .from) (listed-inside p l) q (λ e. inl refl) (λ ne. unchanged (at t q))) f
+  pub clear-boards : (p : ℕ) → Listed t p → FitBoards k (put t p none)
+  clear-boards p l = put-boards p none l (inl refl)
 
   -- the record of a board that joins at a position, with a MAC that is nobody else's
   module _ (p : ℕ) (n : Node) (here : Position k p) (inside : p ≤ length t) (r : InRanges n) (own : (q : ℕ) → Listed t q → at t q .mac ≡ n .mac → q ≡ p) where
@@ -137,26 +162,26 @@ module _ (k : ℕ) (t : List Node) (f : FitTable k t) where
 
     within : (q : ℕ) → Source q → Position k q
     within q (inl (e, a)) = rw e here
-    within q (inr (l, a)) = f .within q l
+    within q (inr (l, a)) = f .boards .within q l
 
     in-range : (q : ℕ) → Source q → InRanges (at (put t p n) q)
     in-range q (inl (e, a)) = rw a r
-    in-range q (inr (l, a)) = rw a (f .ranges q l)
+    in-range q (inr (l, a)) = rw a (f .boards .ranges q l)
 
     differ : (a b : ℕ) → Source a → Source b → (a ≡ b → ⊥) → at (put t p n) a .mac ≡ at (put t p n) b .mac → ⊥
     differ a b (inl (e, x)) (inl (g, y)) ne s = ne (e ∙ sym g)
     differ a b (inl (e, x)) (inr (l, y)) ne s = ne (e ∙ sym (own b l (rw (x, y) at (sym s))))
     differ a b (inr (l, x)) (inl (g, y)) ne s = ne (own a l (rw (x, y) at s) ∙ sym g)
-    differ a b (inr (l, x)) (inr (m, y)) ne s = f .apart a b l m ne (rw (x, y) at s)
+    differ a b (inr (l, x)) (inr (m, y)) ne s = f .boards .apart a b l m ne (rw (x, y) at s)
 
-    pub join-fit : FitTable k (put t p n)
-    join-fit =
+    pub join-boards : FitBoards k (put t p n)
+    join-boards =
         record {
-          forty = put-length t p n ∙ f .forty;
+          forty = put-length t p n ∙ f .boards .forty;
           within = λ q l. within q (source q l);
           ranges = λ q l. in-range q (source q l);
           apart = λ a b la lb. differ a b (source a la) (source b lb);
-          blank = λ q. at-put-each (λ m. m .kind ≡ 0 → m ≡ none) t p n (here .from) inside q (λ e z. absurd (r .listed z)) (λ ne. f .blank q);
+          blank = λ q. at-put-each (λ m. m .kind ≡ 0 → m ≡ none) t p n (here .from) inside q (λ e z. absurd (r .listed z)) (λ ne. f .boards .blank q);
         }
 
     pub join-listed : listedAt (put t p n) p ≡ true

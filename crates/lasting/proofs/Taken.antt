@@ -1,12 +1,15 @@
 -- A step that is accepted passed every rule; a refusal waits for nobody.
+use Prim.Native.Nat.{ℕ, _≤_}
+use native.Mathlib.Omega.{arith}
 use mathlib.Core.Path.{_≡_, refl}
-use mathlib.Core.Bool.{Bool, true, false}
+use mathlib.Core.Bool.{Bool, true, false, _&&_}
 use mathlib.Core.List.{List}
+use lib.ListN.{getD}
 use lib.Dec.{eqb}
 use borrow.Author.Tests.{eqb-true}
 use Rattle.ground.specs.Choose.{choose}
 use Rattle.ground.proofs.Choices.{not-right}
-use Rattle.refusal.specs.Refusal.{refuses, numberOf, ruled}
+use Rattle.refusal.specs.Refusal.{Told, refuses, numberOf, ruled}
 use Rattle.refusal.specs.declared.Refusal.{Refusal}
 use Rattle.refusal.proofs.Numbers.{not-zero}
 use Rattle.refusal.proofs.Rules.{Passed, by-rules, each}
@@ -23,6 +26,15 @@ never-accepted c t r h = absurd (not-zero r (eqb-true (numberOf r) 0 h))
 pub no-wait : (r : Refusal) → waitsIn (refuses r) ≡ 0
 unfolding choose
 no-wait r = rw (not-right (eqb (refuses r .number) 0) false refl) refl
+
+-- so an answer that waits in one is accepted
+pub waiting-accepted : (says : Told) {n : ℕ} → 1 ≤ n → waitsIn says ≡ n → isAccepted says ≡ true
+unfolding choose
+waiting-accepted says {n} l = go (isAccepted says)
+  where
+    go : (b : Bool) → choose (b && eqb (getD (says .values) 0 0) 1) (getD (says .values) 2 0) 0 ≡ n → b ≡ true
+    go true e = refl
+    go false e = absurd (let z : ⊥ = omega (arith, l, e) in z)
 
 module _ (c : Coordinator) (t : List Node) where
   -- what holds of every refusal, and of what the rules guard, holds of the step

@@ -52,7 +52,7 @@ module _ (c : Coordinator) (t : List Node) (h : fits c t ≡ true) where
   list-keeps e = accepted-keeps c t _ (phase-keeps c t h _ cleared (c .kept) (listing (owedTo c t)) (both (listedAt t (owedTo c t)) true (owed-listed c t e) refl) refl) refl refl
     where
       cleared : Stays (c .setup .k) t (put t (owedTo c t) (unmarked (at t (owedTo c t))))
-      cleared = put-stays (c .setup .k) t (table-fit c t h) (owedTo c t) (unmarked (at t (owedTo c t))) (listed-told t (owedTo c t) (owed-listed c t e)) (unmarked-follows (at t (owedTo c t)))
+      cleared = put-stays (c .setup .k) t (table-fit c t h) (owedTo c t) (unmarked (at t (owedTo c t))) (listed-told t (owedTo c t) (owed-listed c t e)) (unmarked-follows (at t (owedTo c t))) refl
 
   own-keeps : someListed t ≡ true → Keeps c t (sent (dueOwn c t))
   unfolding choose

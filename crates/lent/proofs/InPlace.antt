@@ -1,5 +1,5 @@
 -- What setup and the changes of single records make of lent records, which they edit where they stand, is what the definitions say: of any other count than forty nothing is changed.
-use Prim.Native.Nat.{ℕ, _-_}
+use Prim.Native.Nat.{ℕ, _-_, min}
 use mathlib.Core.Path.{_≡_, refl, sym, ap, _∙_}
 use mathlib.Core.Bool.{Bool, true, false}
 use mathlib.Core.List.{List, [], _∷_, map}
@@ -7,6 +7,7 @@ use lib.Dec.{eqb}
 use lib.ListN.{length, replicate}
 use borrow.Author.Tests.{eqb-true, not-false}
 use Rattle.ground.specs.Choose.{choose}
+use Rattle.ground.proofs.Choices.{of-choice}
 use Rattle.refusal.specs.Refusal.{refuses}
 use Rattle.refusal.specs.declared.Refusal.{Refusal}
 use Rattle.refusal.specs.declared.Refusal.the-variants.{StateUnfit}
@@ -24,8 +25,10 @@ use Rattle.steps.proofs.Shows.{same-shown}
 use Rattle.change.specs.declared.Edit.{Edit}
 use Rattle.change.specs.declared.Edit.the-variants.{Cleared}
 use Rattle.change.specs.Change.{edited, editedAt}
-use Rattle.place.specs.Place.{editedBetween}
-use Rattle.place.proofs.Edits.{nothing-edited, each-edited, position-edited}
+use Rattle.board.specs.Index.{numbered}
+use Rattle.place.specs.Place.{editedBetween, numberedFirst}
+use Rattle.place.proofs.Edits.{length-edited, nothing-edited, each-edited, position-edited}
+use Rattle.place.proofs.Numbers.{numbered-if}
 use Rattle.start.specs.declared.Begun.{Begun}
 use Rattle.start.specs.Begin.{begun, beginOf}
 use Rattle.lent.specs.declared.Amendment.{Amendment}
@@ -79,19 +82,22 @@ module _ (c : Coordinator) (ys : List Node) (addresses : List ℕ) (subnet inter
   setup-in-place zs r e back = ap (inPlace (r .outcome) (r .coordinator)) back ∙ ap does e ∙ begun-same
 
 -- a change of one record
-pub amend-in-place : (ys zs : List Node) (position : ℕ) (e : Edit) (r : Amendment) → r ≡ amending (length ys) position e → zs ≡ editedBetween ys (r .from) (r .to) (r .edit) → amends (r .answer) zs ≡ amendOf (length ys) ys (editedAt ys position e)
-unfolding choose
-amend-in-place ys zs position e r er back = ap (amends (r .answer)) back ∙ ap edits er ∙ go (eqb (length ys) 40)
-  where
-    edits : Amendment → Amends
-    edits a = amends (a .answer) (editedBetween ys (a .from) (a .to) (a .edit))
+module _ (ys zs : List Node) (position : ℕ) (e : Edit) (r : Amendment) (back : zs ≡ editedBetween ys (r .from) (r .to) (r .edit)) (er : r ≡ amending (length ys) position e) where
+  abbrev changed : List Node
+  changed = editedAt ys position e
 
-    yes : Amendment
-    yes = record { from = position - 1; to = position; edit = e; answer = packed rests 0 0 0 }
+  pub amend-in-place : amends (r .answer) zs ≡ amendOf (length ys) ys changed
+  amend-in-place = ap (amends (r .answer)) back ∙ ap edits er ∙ of-choice edits (eqb (length ys) 40) _ _ ∙ (λ i. choose (eqb (length ys) 40) (amends (packed rests 0 0 0) (position-edited ys position e i)) (amends (packed (refuses StateUnfit) 0 0 0) (nothing-edited ys 0 e i)))
+    where
+      edits : Amendment → Amends
+      edits a = amends (a .answer) (editedBetween ys (a .from) (a .to) (a .edit))
 
-    no : Amendment
-    no = record { from = 0; to = 0; edit = e; answer = packed (refuses StateUnfit) 0 0 0 }
-
-    go : (b : Bool) → edits (choose b yes no) ≡ choose b (amends (packed rests 0 0 0) (editedAt ys position e)) (amends (packed (refuses StateUnfit) 0 0 0) ys)
-    go true = ap (amends (packed rests 0 0 0)) (position-edited ys position e)
-    go false = ap (amends (packed (refuses StateUnfit) 0 0 0)) (nothing-edited ys 0 e)
+  -- after which all are numbered
+  pub number-in-place : (us : List Node) → us ≡ numberedFirst zs (min (length zs) (r .all)) → amends (r .answer) us ≡ amendOf (length ys) ys (numbered changed)
+  unfolding choose
+  number-in-place us then = ap (amends (r .answer)) (then ∙ numbered-if (eqb (length ys) 40) zs (length ys) (r .all) (ap length back ∙ length-edited ys _ _ _) (ap (λ (a : Amendment). a .all) er ∙ of-choice (λ (a : Amendment). a .all) (eqb (length ys) 40) _ _)) ∙ go (eqb (length ys) 40) amend-in-place
+    where
+      go : (b : Bool) → amends (r .answer) zs ≡ choose b (amends (packed rests 0 0 0) changed) (amends (packed (refuses StateUnfit) 0 0 0) ys)
+          → amends (r .answer) (choose b (numbered zs) zs) ≡ choose b (amends (packed rests 0 0 0) (numbered changed)) (amends (packed (refuses StateUnfit) 0 0 0) ys)
+      go true h = ap (λ (a : Amends). amends (a .answer) (numbered (a .nodes))) h
+      go false h = h

@@ -17,11 +17,13 @@ ghost use Rattle.lent.specs.Amend.{amending};
 // As many records as a table has.
 const RECORDS: usize = 40;
 
-// Which records a host amends by itself, from an index up to another, what is done to each, and the packed answer.
+// Which records a host amends by itself, from an index up to another, what is done to each, how many there are to number
+// where that moves indexes, and the packed answer.
 pub struct Amendment {
     pub from: usize,
     pub to: usize,
     pub edit: Edit,
+    pub all: usize,
     pub answer: u64,
 }
 
@@ -34,6 +36,7 @@ fn amending(count: usize, position: usize, edit: Edit) -> Amendment
             from: 0,
             to: 0,
             edit: edit,
+            all: 0,
             answer: plainly(Answer::Refuse(Refusal::StateUnfit)),
         };
     }
@@ -41,6 +44,7 @@ fn amending(count: usize, position: usize, edit: Edit) -> Amendment
         from: place::below(position),
         to: position,
         edit: edit,
+        all: count,
         answer: plainly(Answer::Rest),
     }
 }

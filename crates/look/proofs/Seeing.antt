@@ -2,7 +2,7 @@
 use Prim.Native.Nat.{ℕ, _≤_}
 use native.Mathlib.Omega.{arith}
 use mathlib.Core.Path.{_≡_, refl, sym, ap, _∙_}
-use mathlib.Core.Bool.{Bool, true, false}
+use mathlib.Core.Bool.{Bool, true, false, _&&_}
 use mathlib.Core.Logic.{inl, inr}
 use mathlib.Core.List.{List}
 use lib.Dec.{eqb}
@@ -12,14 +12,14 @@ use Rattle.ground.proofs.Choices.{and-left}
 use Rattle.ground.proofs.Highest.{HighestCase}
 use Rattle.board.specs.declared.Node.{Node}
 use Rattle.board.specs.Table.{at, listedAt}
-use Rattle.board.specs.declared.Wanted.the-variants.{Kind, Owed}
+use Rattle.board.specs.declared.Wanted.the-variants.{Owed}
 use Rattle.board.specs.Wanted.{lowestOf, highestListed}
-use Rattle.board.specs.Columns.{kindsOf, marksOf, macsOf, typed}
-use Rattle.board.proofs.LowestWanted.{highest-listed-case, owed-to-top, some-highest}
+use Rattle.board.specs.Columns.{kindsOf, storedIndex, storedIndexes, macsOf, typed, columnAt}
+use Rattle.board.proofs.LowestWanted.{highest-listed-case, highest-within, owed-to-top, some-highest}
 use Rattle.board.proofs.SameKinds.{SameKinds, kinds-listed}
-use Rattle.board.proofs.Columns.{typed-kinds, lowest-mark, Blanks}
-use Rattle.setup.specs.Fit.{recordsFit, areApart, tableFits}
-use Rattle.setup.proofs.Tables.{apart-listed, table-told}
+use Rattle.board.proofs.Columns.{typed-kinds, column-of, Blanks}
+use Rattle.setup.specs.Fit.{recordsFit, areApart, areNumbered, tableFits}
+use Rattle.setup.proofs.Tables.{boards-listed, table-told}
 use Rattle.coordinator.specs.declared.Coordinator.{Coordinator}
 use Rattle.coordinator.specs.declared.Exchange.{Exchange}
 use Rattle.coordinator.specs.declared.Exchange.the-variants.{Offer, List as Listing, Forward, Return}
@@ -54,39 +54,43 @@ module _ {t u : List Node} (same : SameKinds t u) where
   phase-same (Seeking p part) m = refl
   phase-same Unknown m = refl
 
-module _ {s : Seen} {ks os ms : List ℕ} {c : Coordinator} {t : List Node} (sees : Sees s ks os ms c t) where
-  -- what is seen tells whether coordinator and records are fit
-  pub fits-seen : fitsSeen s ks ms ≡ fits c t
-  unfolding fitsSeen fits tableFits holdFits
-  fits-seen = go (s .ok) refl
-    where
-      go : (b : Bool) → s .ok ≡ b → fitsSeen s ks ms ≡ fits c t
-      go false e = rw (eq-eqb (length t) 40 (sees .forty), sees .setup, e, (let r : recordsFit (c .setup .k) t ≡ false = sym (sees .each) ∙ e in r)) refl
-      go true e =
-          let cols = sees .columns e in
-          let r : recordsFit (c .setup .k) t ≡ true = sym (sees .each) ∙ e in
-          rw (eq-eqb (length t) 40 (sees .forty), sees .setup, sees .state, e, r, cols .kinds, cols .macs, cols .top, apart-listed (c .setup .k) t (sees .forty) r, phase-same (typed-kinds t (sees .forty)) (phaseOf (c .stand)) (c .kept), some-highest t) refl
-
-  -- and of fit ones all of it
-  module _ (fit : fits c t ≡ true) where
-    pub fit-columns : Columned s ks os ms t
-    unfolding tableFits
-    fit-columns = sees .columns (sees .each ∙ and-left (recordsFit (c .setup .k) t) (areApart (macsOf t)) (fits-table c t fit))
-
-    pub saw : Saw s c t
-    saw = record { fit = fit; setup = sees .setup; state = sees .state; top = fit-columns .top }
-
--- records that are fit are blank where they are not listed
-pub fit-blanks : (c : Coordinator) (t : List Node) → fits c t ≡ true → Blanks t
-fit-blanks c t fit p l = table-told (c .setup .k) t (fits-forty c t fit) (fits-table c t fit) .blank p (eqb-true (at t p .kind) 0 (not-false (eqb (at t p .kind) 0) l))
-
--- and nobody is listed above k
+-- of fit records nobody is listed above k
 pub top-within : (c : Coordinator) (t : List Node) → fits c t ≡ true → highestListed t ≤ c .setup .k
 top-within c t fit = go (highest-listed-case t)
   where
     go : HighestCase (listedAt t) 40 (highestListed t) → highestListed t ≤ c .setup .k
     go (inl (none, zeroed)) = omega (arith, zeroed)
     go (inr f) = board-listed c t fit (highestListed t) (f .passes) .upTo
+
+-- so the lowest position owed the list is one from 1 to k
+owed-within : (c : Coordinator) (t : List Node) → fits c t ≡ true → lowestOf t Owed 40 ≡ lowestOf t Owed (c .setup .k)
+owed-within c t fit = owed-to-top t 40 (highest-within t) ∙ sym (owed-to-top t (c .setup .k) (top-within c t fit))
+
+module _ {s : Seen} {ks xs ms : List ℕ} {c : Coordinator} {t : List Node} (sees : Sees s ks xs ms c t) where
+  -- what is seen tells whether coordinator and records are fit
+  pub fits-seen : fitsSeen s ks xs ms ≡ fits c t
+  unfolding fitsSeen fits tableFits holdFits
+  fits-seen = go (s .ok) refl
+    where
+      go : (b : Bool) → s .ok ≡ b → fitsSeen s ks xs ms ≡ fits c t
+      go false e = rw (eq-eqb (length t) 40 (sees .forty), sees .setup, e, (let r : recordsFit (c .setup .k) t ≡ false = sym (sees .each) ∙ e in r)) refl
+      go true e =
+          let cols = sees .columns e in
+          let r : recordsFit (c .setup .k) t ≡ true = sym (sees .each) ∙ e in
+          rw (eq-eqb (length t) 40 (sees .forty), sees .setup, sees .state, e, r, cols .kinds, cols .indexes, cols .macs, cols .top, boards-listed (c .setup .k) t (sees .forty) r, phase-same (typed-kinds t (sees .forty)) (phaseOf (c .stand)) (c .kept), some-highest t) refl
+
+  -- and of fit ones all of it
+  module _ (fit : fits c t ≡ true) where
+    pub fit-columns : Columned s ks xs ms t
+    unfolding tableFits
+    fit-columns = sees .columns (sees .each ∙ and-left (recordsFit (c .setup .k) t) (areApart (macsOf t) && areNumbered t) (fits-table c t fit))
+
+    pub saw : Saw s c t
+    saw = record { fit = fit; setup = sees .setup; state = sees .state; top = fit-columns .top; owed = fit-columns .owed ∙ owed-within c t fit }
+
+-- records that are fit are blank where they are not listed
+pub fit-blanks : (c : Coordinator) (t : List Node) → fits c t ≡ true → Blanks t
+fit-blanks c t fit p l = table-told (c .setup .k) t (fits-forty c t fit) (fits-table c t fit) .boards .blank p (eqb-true (at t p .kind) 0 (not-false (eqb (at t p .kind) 0) l))
 
 -- what fit ones were seen as, and what they are
 module _ {s : Seen} {c : Coordinator} {t : List Node} (saw : Saw s c t) where
@@ -98,6 +102,6 @@ module _ {s : Seen} {c : Coordinator} {t : List Node} (saw : Saw s c t) where
   pub kinds-seen : {kinds : List ℕ} → kinds ≡ kindsOf t → SameKinds (typed kinds) t
   kinds-seen known = rw known (typed-kinds t (fits-forty c t (saw .fit)))
 
-  -- the lowest position that is owed the list, up to the highest listed one
-  pub mark-seen : {marks : List ℕ} → marks ≡ marksOf t → lowestOf (typed marks) (Kind 1) (s .top) ≡ lowestOf t Owed (c .setup .k)
-  mark-seen known = rw (known, saw .top) (lowest-mark t (fit-blanks c t (saw .fit)) (fits-forty c t (saw .fit)) (highestListed t) ∙ sym (owed-to-top t (c .setup .k) (top-within c t (saw .fit))))
+  -- the stored index at a position
+  pub index-seen : {indexes : List ℕ} → indexes ≡ storedIndexes t → (p : ℕ) → columnAt indexes p ≡ at t p .index
+  index-seen known p = ap (λ (xs : List ℕ). columnAt xs p) known ∙ column-of storedIndex refl t (fits-forty c t (saw .fit)) p

@@ -9,38 +9,53 @@ use coordinator::Phase;
 use coordinator::State;
 use setup::Setup;
 ghost use mathlib.Core.Path.{_≡_};
+ghost use Prim.Native.Nat.{_<_};
 ghost use Rattle.board.specs.Columns.{typed};
 ghost use Rattle.coordinator.specs.State.{bare};
 ghost use Rattle.coordinator.specs.Fit.{isRequest, isResponse, exchangeFits, phaseFits, isFound, partFits, seekFits};
 ghost use Rattle.look.specs.Seen.{fitsSeen};
-ghost use Rattle.look.specs.Digest.{digested, noted};
+ghost use Rattle.look.specs.Digest.{digested, owedFirst, noted};
 
 // What is seen besides the columns: the setup and the state of the coordinator, whether each record is fit by itself, and
-// the highest listed position.
+// the highest listed position and the lowest to which the list is owed, 0 for none.
 pub struct Seen {
     pub setup: Setup,
     pub state: State,
     pub ok: bool,
     pub top: usize,
+    pub owed: usize,
 }
 
-// What was noted of records: whether each is fit by itself, and the highest listed position.
+// What was noted of records: whether each is fit by itself, the highest listed position, and the lowest to which the list
+// is owed, 0 for none.
 pub struct Digest {
     pub ok: bool,
     pub top: usize,
+    pub owed: usize,
 }
 
-// The record at an index noted: its type, mark and MAC go into the columns where it is listed.
+// The lowest position to which the list is owed, with the mark of the record at index i noted too.
+fn owed_first(owed: usize, i: usize, mark: u8) -> usize
+    requires { ⌜ i < 40 ⌝ }
+    ensures { λ r. ⌜ r ≡ owedFirst owed i mark ⌝ }
+{
+    if (owed == 0) & (mark == 1) {
+        return i + 1;
+    }
+    owed
+}
+
+// The record at an index noted: its type, stored index and MAC go into the columns where it is listed.
 pub fn note(
     digest: Digest,
     k: usize,
     i: usize,
     node: Node,
     kinds: &mut [u8; 40],
-    marks: &mut [u8; 40],
+    indexes: &mut [u8; 40],
     macs: &mut [u64; 40],
 ) -> Digest
-    ensures { λ r. ⌜ digested r (now (kinds .exit)) (now (marks .exit)) (now (macs .exit)) ≡ noted k i node (digested digest (now (kinds .entry)) (now (marks .entry)) (now (macs .entry))) ⌝ }
+    ensures { λ r. ⌜ digested r (now (kinds .exit)) (now (indexes .exit)) (now (macs .exit)) ≡ noted k i node (digested digest (now (kinds .entry)) (now (indexes .entry)) (now (macs .entry))) ⌝ }
 {
     let ok = digest.ok & setup::record_fits(k, i, node);
     if 40 <= i {
@@ -50,12 +65,17 @@ pub fn note(
         return Digest {
             ok: ok,
             top: digest.top,
+            owed: digest.owed,
         };
     }
     kinds[i] = node.kind;
-    marks[i] = node.owed;
+    indexes[i] = node.index;
     macs[i] = node.mac;
-    Digest { ok: ok, top: i + 1 }
+    Digest {
+        ok: ok,
+        top: i + 1,
+        owed: owed_first(digest.owed, i, node.owed),
+    }
 }
 
 fn is_request(head: Head) -> bool
@@ -149,9 +169,9 @@ fn seek_fits(phase: Phase, k: usize, found: Found) -> bool
     }
 }
 
-// Coordinator and records are fit together. MACs are compared up to the highest listed position: above it there are none. Joins are held only where somebody is listed.
-pub fn fits(seen: Seen, kinds: &[u8; 40], macs: &[u64; 40]) -> bool
-    ensures { λ r. ⌜ r ≡ fitsSeen seen (now (kinds .entry)) (now (macs .entry)) ⌝ }
+// Coordinator and records are fit together. MACs are compared and indexes counted up to the highest listed position: above it there are none. Joins are held only where somebody is listed.
+pub fn fits(seen: Seen, kinds: &[u8; 40], indexes: &[u8; 40], macs: &[u64; 40]) -> bool
+    ensures { λ r. ⌜ r ≡ fitsSeen seen (now (kinds .entry)) (now (indexes .entry)) (now (macs .entry)) ⌝ }
 {
     let setup = seen.setup;
     let state = seen.state;
@@ -163,7 +183,7 @@ pub fn fits(seen: Seen, kinds: &[u8; 40], macs: &[u64; 40]) -> bool
     let top = seen.top;
     let phase = coordinator::phase_of(stand);
     setup::setup_fits(setup)
-        & ((seen.ok & setup::are_apart(macs, top))
+        & ((seen.ok & setup::boards_fit(kinds, indexes, macs, top))
             & (phase_fits(phase, kinds, head)
                 & (seek_fits(phase, k, found)
                     & ((state.searched <= 1)

@@ -19,28 +19,22 @@ use Rattle.frame.proofs.RoundTrip.{long, reads-back, reads-back-payload}
 use Rattle.word.specs.Words.{bytesOf, wordAt}
 use Rattle.word.proofs.Words.{length-bytes, read-back}
 use Rattle.board.specs.declared.Node.{Node}
-use Rattle.board.specs.Wanted.{indexOf}
-use Rattle.board.proofs.SameKinds.{SameKinds, kinds-index}
+use Rattle.board.specs.Table.{at}
 use Rattle.setup.specs.declared.Setup.{Setup}
 use Rattle.setup.specs.Setup.{address}
 use Rattle.nodelist.specs.List.{nodeList}
 use Rattle.nodelist.proofs.Theorems.{at-most}
 use Rattle.message.specs.Message.{toBoard, ownHeader, signed, listHeader, signedFrame, listFrame, ackCode, broadcastHeader, discoveryHeader, everyKind, identifyHeader, assignHeader, assignment}
 
--- a header of our own needs the types alone
-pub kinds-header : {t u : List Node} → SameKinds t u → (s : Setup) (board message packet : ℕ) → ownHeader s t board message packet ≡ ownHeader s u board message packet
-unfolding ownHeader
-kinds-header same s board message packet = rw (kinds-index same board) refl
-
 -- a header of our own is one sent to the board
-pub own-to-board : (s : Setup) (t : List Node) (board message packet : ℕ) → ownHeader s t board message packet ≡ toBoard s board (ownHeader s t board message packet)
+pub own-to-board : (s : Setup) (board index message packet : ℕ) → ownHeader s board index message packet ≡ toBoard s board (ownHeader s board index message packet)
 unfolding ownHeader toBoard
-own-to-board s t board message packet = refl
+own-to-board s board index message packet = refl
 
 -- the nine bytes of a header of our own, as they stand on the wire
-pub own-fields : (s : Setup) (t : List Node) (board message packet : ℕ) → fields (ownHeader s t board message packet) ≡ address s board ∷ 255 ∷ s .subnet ∷ 0 ∷ 0 ∷ indexOf t board ∷ 165 ∷ message ∷ packet ∷ []
+pub own-fields : (s : Setup) (board index message packet : ℕ) → fields (ownHeader s board index message packet) ≡ address s board ∷ 255 ∷ s .subnet ∷ 0 ∷ 0 ∷ index ∷ 165 ∷ message ∷ packet ∷ []
 unfolding ownHeader
-own-fields s t board message packet = refl
+own-fields s board index message packet = refl
 
 -- the nine bytes of a broadcast's header
 pub broadcast-fields : (message packet : ℕ) → fields (broadcastHeader message packet) ≡ 0 ∷ 255 ∷ 0 ∷ 0 ∷ 0 ∷ 0 ∷ 165 ∷ message ∷ packet ∷ []
@@ -63,7 +57,7 @@ pub list-small : (internal : ℕ) (t : List Node) → length (nodeList internal 
 list-small internal t = omega (arith, at-most internal t)
 
 pub list-long : (s : Setup) (t : List Node) (board : ℕ) → length (listFrame s t board) ≤ 53
-list-long s t board = omega (arith, long (listHeader s t board) (nodeList (s .internal) t), at-most (s .internal) t)
+list-long s t board = omega (arith, long (listHeader s board (at t board .index)) (nodeList (s .internal) t), at-most (s .internal) t)
 
 -- an assignment has 19 bytes
 pub assignment-size : (s : Setup) (position mac session : ℕ) → length (assignment s position mac session) ≡ 19
@@ -77,8 +71,8 @@ assignment-small s position mac session = omega (arith, assignment-size s positi
 pub discovery-long : length (frameOf discoveryHeader everyKind) ≡ 13
 discovery-long = long discoveryHeader everyKind
 
-pub identify-long : (s : Setup) (t : List Node) (position : ℕ) → length (frameOf (identifyHeader s t position) []) ≡ 12
-identify-long s t position = long (identifyHeader s t position) []
+pub identify-long : (s : Setup) (position index : ℕ) → length (frameOf (identifyHeader s position index) []) ≡ 12
+identify-long s position index = long (identifyHeader s position index) []
 
 pub assign-long : (s : Setup) (position mac session : ℕ) → length (frameOf assignHeader (assignment s position mac session)) ≡ 31
 assign-long s position mac session = long assignHeader (assignment s position mac session) ∙ ap (λ (n : ℕ). 12 + n) (assignment-size s position mac session)

@@ -9,7 +9,7 @@ use Rattle.frame.specs.declared.Writing.{Writing}
 use Rattle.frame.specs.Frame.{frameOf, toldWritten, writing, writtenBytes}
 use Rattle.word.specs.Words.{bytesOf}
 use Rattle.board.specs.declared.Node.{Node}
-use Rattle.board.specs.Wanted.{indexOf}
+use Rattle.board.specs.Table.{at}
 use Rattle.setup.specs.declared.Setup.{Setup}
 use Rattle.setup.specs.Setup.{address}
 use Rattle.nodelist.specs.List.{nodeList}
@@ -30,15 +30,15 @@ toBoard s board h =
     }
 
 -- the header of a message of our own: method 0, parameter 1 0, parameter 2 the board's index, node type 165 (01, "Turn": "Own frames")
-unfoldable pub ownHeader : Setup → List Node → ℕ → ℕ → ℕ → Header
-ownHeader s t board message packet =
+unfoldable pub ownHeader : Setup → ℕ → ℕ → ℕ → ℕ → Header
+ownHeader s board index message packet =
     record {
       destination = address s board;
       source = 255;
       subnet = s .subnet;
       method = 0;
       parameter1 = 0;
-      parameter2 = indexOf t board;
+      parameter2 = index;
       kind = 165;
       message = message;
       packet = packet;
@@ -57,20 +57,20 @@ unfoldable pub signed : Setup → ℕ → List ℕ
 signed s code = code ∷ bytesOf 8 (s .mac) ++ bytesOf 8 (s .session)
 
 -- both are message 0, packet number 0x80: the dataflow bit (003, 4.3)
-abbrev pub signedHeader : Setup → List Node → ℕ → Header
-signedHeader s t board = ownHeader s t board 0 128
+abbrev pub signedHeader : Setup → ℕ → ℕ → Header
+signedHeader s board index = ownHeader s board index 0 128
 
 -- the node list is message 0x14, packet number 0 (003, Table 30 and 4.3)
-abbrev pub listHeader : Setup → List Node → ℕ → Header
-listHeader s t board = ownHeader s t board 20 0
+abbrev pub listHeader : Setup → ℕ → ℕ → Header
+listHeader s board index = ownHeader s board index 20 0
 
--- the offer to a board, or the ACK, by the code
+-- the offer to a board of the table, or the ACK, by the code: parameter 2 is the stored index (02, C-13)
 abbrev pub signedFrame : Setup → List Node → ℕ → ℕ → List ℕ
-signedFrame s t board code = frameOf (signedHeader s t board) (signed s code)
+signedFrame s t board code = frameOf (signedHeader s board (at t board .index)) (signed s code)
 
--- the node list to a board
+-- the node list to a board of the table
 abbrev pub listFrame : Setup → List Node → ℕ → List ℕ
-listFrame s t board = frameOf (listHeader s t board) (nodeList (s .internal) t)
+listFrame s t board = frameOf (listHeader s board (at t board .index)) (nodeList (s .internal) t)
 
 -- the header of a broadcast of the exchange by which a board joins: destination 0, subnet 0, method 0, parameters 0 (02, C-11; 003, 6.6 and 6.7)
 unfoldable pub broadcastHeader : ℕ → ℕ → Header
@@ -96,8 +96,8 @@ abbrev pub everyKind : List ℕ
 everyKind = 0 ∷ []
 
 -- Get Node ID is message 0x7B, packet number 0, without a payload; it goes to the address at stake (003, Table 61)
-abbrev pub identifyHeader : Setup → List Node → ℕ → Header
-identifyHeader s t position = ownHeader s t position 123 0
+abbrev pub identifyHeader : Setup → ℕ → ℕ → Header
+identifyHeader s position index = ownHeader s position index 123 0
 
 -- Set Address is message 0x7A, packet number 0 (003, Table 59)
 abbrev pub assignHeader : Header

@@ -33,26 +33,25 @@ pub fn write_to(
     frame::write(to_board(setup, board, header), payload, out)
 }
 
-// Writes a message of our own to a board. The header's first three fields are `write_to`'s to say.
+// Writes a message of our own to a board with this index. The header's first three fields are `write_to`'s to say.
 fn write_own(
     setup: Setup,
-    kinds: &[u8; 40],
     board: usize,
+    index: u8,
     message: u8,
     packet: u8,
     payload: &[u8],
     out: &mut [u8],
 ) -> Writing
-    ensures { λ r. ⌜ Sends (ownHeader setup (typed (now (kinds .entry))) board message packet) (now (payload .entry)) r (now (out .entry)) (now (out .exit)) ⌝ }
+    ensures { λ r. ⌜ Sends (ownHeader setup board index message packet) (now (payload .entry)) r (now (out .entry)) (now (out .exit)) ⌝ }
 {
-    let index = board::index_of(kinds, board);
     let header = Header {
         destination: 0,
         source: 0,
         subnet: 0,
         method: 0,
         parameter1: 0,
-        parameter2: index as u8,
+        parameter2: index,
         kind: 165,
         message: message,
         packet: packet,
@@ -88,17 +87,11 @@ fn signed_bytes(setup: Setup, code: u8) -> [u8; 17]
 }
 
 // Writes the offer to a board with code 0, the ACK with code 6.
-pub fn write_signed(
-    setup: Setup,
-    kinds: &[u8; 40],
-    board: usize,
-    code: u8,
-    out: &mut [u8],
-) -> Writing
-    ensures { λ r. ⌜ Sends (signedHeader setup (typed (now (kinds .entry))) board) (signed setup code) r (now (out .entry)) (now (out .exit)) ⌝ }
+pub fn write_signed(setup: Setup, board: usize, index: u8, code: u8, out: &mut [u8]) -> Writing
+    ensures { λ r. ⌜ Sends (signedHeader setup board index) (signed setup code) r (now (out .entry)) (now (out .exit)) ⌝ }
 {
     let payload = signed_bytes(setup, code);
-    write_own(setup, kinds, board, 0, 0x80, &payload, out)
+    write_own(setup, board, index, 0, 0x80, &payload, out)
 }
 
 // Writes the node list to a board, up to the highest listed position. It has at most 41 bytes, so that the buffer
@@ -108,14 +101,15 @@ pub fn write_list(
     kinds: &[u8; 40],
     top: usize,
     board: usize,
+    index: u8,
     out: &mut [u8],
 ) -> Writing
-    ensures { λ r. ⌜ Sends (listHeader setup (typed (now (kinds .entry))) board) (listTo top (setup .internal) (typed (now (kinds .entry)))) r (now (out .entry)) (now (out .exit)) ⌝ }
+    ensures { λ r. ⌜ Sends (listHeader setup board index) (listTo top (setup .internal) (typed (now (kinds .entry)))) r (now (out .entry)) (now (out .exit)) ⌝ }
 {
     let mut payload = [0u8; 41];
     nodelist::write_list(setup.internal, kinds, top, &mut payload);
     let n = nodelist::list_length(top);
-    write_own(setup, kinds, board, 0x14, 0, &payload[..n], out)
+    write_own(setup, board, index, 0x14, 0, &payload[..n], out)
 }
 
 // Writes a broadcast of the exchange by which a board joins.
@@ -145,11 +139,11 @@ pub fn write_discovery(out: &mut [u8]) -> Writing
 }
 
 // Writes Get Node ID to the address of a position.
-pub fn write_identify(setup: Setup, kinds: &[u8; 40], position: usize, out: &mut [u8]) -> Writing
-    ensures { λ r. ⌜ Sends (identifyHeader setup (typed (now (kinds .entry))) position) [] r (now (out .entry)) (now (out .exit)) ⌝ }
+pub fn write_identify(setup: Setup, position: usize, index: u8, out: &mut [u8]) -> Writing
+    ensures { λ r. ⌜ Sends (identifyHeader setup position index) [] r (now (out .entry)) (now (out .exit)) ⌝ }
 {
     let payload = [0u8; 1];
-    write_own(setup, kinds, position, 0x7B, 0, &payload[..0], out)
+    write_own(setup, position, index, 0x7B, 0, &payload[..0], out)
 }
 
 // The address of a position, our subnet, then the MAC and the session of whom it is for, and 1.

@@ -1,6 +1,6 @@
 // The lent forms: the host's coordinator and records, updated where they stand, for Rattle and for C. A step looks, has it decided, and
-// changes; for the others a covered function that sees no record says which are edited, and how. Records that are not forty get 22, and
-// stay as they were.
+// changes; for the others a covered function that sees no record says which are edited, and how, and how many are numbered then. Records
+// that are not forty get 22, and stay as they were.
 use board::Node;
 use board::Table;
 use change::Edit;
@@ -48,9 +48,9 @@ pub fn step(
     ensures { λ r. ⌜ (inPlace r (now (coordinator .exit)) (now (nodes .exit)) ≡ shows (stepOf (now (coordinator .entry)) (now (nodes .entry)) event (now (received .entry)) (length (now (out .entry))))) × (now (out .exit) ≡ laid (stepOf (now (coordinator .entry)) (now (nodes .entry)) event (now (received .entry)) (length (now (out .entry))) .bytes) (now (out .entry))) ⌝ }
 {
     let mut kinds = [0u8; 40];
-    let mut marks = [0u8; 40];
+    let mut indexes = [0u8; 40];
     let mut macs = [0u64; 40];
-    let seen = place::look(coordinator, nodes, &mut kinds, &mut marks, &mut macs);
+    let seen = place::look(coordinator, nodes, &mut kinds, &mut indexes, &mut macs);
     let node = place::record_at(nodes, seen.state.stand.board);
     let change = stepping::counted(
         nodes.len(),
@@ -58,7 +58,7 @@ pub fn step(
         node,
         &coordinator.kept.payload,
         &kinds,
-        &marks,
+        &indexes,
         &macs,
         event,
         received,
@@ -68,7 +68,7 @@ pub fn step(
     change.outcome
 }
 
-// A board listed at a position, in place.
+// A board listed at a position, in place, and all indexes counted anew.
 #[no_mangle]
 pub extern "C" fn nadrelgos_list(
     nodes: &mut [Node],
@@ -82,10 +82,11 @@ pub extern "C" fn nadrelgos_list(
     let n = nodes.len();
     let r = lent::list_edit(n, position, kind, mac, session);
     place::amend(nodes, r.from, r.to, r.edit);
+    place::number(nodes, r.all);
     r.answer
 }
 
-// A position cleared, in place.
+// A position cleared, in place, and all indexes counted anew.
 #[no_mangle]
 pub extern "C" fn nadrelgos_clear(nodes: &mut [Node], position: usize) -> u64
     ensures { λ r. ⌜ amends r (now (nodes .exit)) ≡ amendOf (length (now (nodes .entry))) (now (nodes .entry)) (clearing (now (nodes .entry)) position) ⌝ }
@@ -93,10 +94,11 @@ pub extern "C" fn nadrelgos_clear(nodes: &mut [Node], position: usize) -> u64
     let n = nodes.len();
     let r = lent::clear_edit(n, position);
     place::amend(nodes, r.from, r.to, r.edit);
+    place::number(nodes, r.all);
     r.answer
 }
 
-// The list marked as owed to the board at a position, in place.
+// The list marked as owed to the board at a position, in place. No index changes, and none is counted.
 #[no_mangle]
 pub extern "C" fn nadrelgos_mark(nodes: &mut [Node], position: usize) -> u64
     ensures { λ r. ⌜ amends r (now (nodes .exit)) ≡ amendOf (length (now (nodes .entry))) (now (nodes .entry)) (marking (now (nodes .entry)) position) ⌝ }

@@ -12,14 +12,16 @@ use Rattle.ground.specs.Choose.{choose}
 use Rattle.board.specs.declared.Node.{Node}
 use Rattle.board.specs.Node.{none}
 use Rattle.board.specs.Table.{put}
-use Rattle.board.specs.Change.{oweAll}
+use Rattle.board.specs.Index.{numbered}
+use Rattle.board.specs.Change.{oweAll, relisted}
 use Rattle.board.proofs.Positions.{at-position}
 use Rattle.change.specs.declared.Edit.{Edit}
 use Rattle.change.specs.declared.Edit.the-variants.{Owed}
 use Rattle.change.specs.declared.Change.{Change}
 use Rattle.change.specs.Change.{edited, editedAt, amended}
 use Rattle.change.proofs.Making.{edits-none}
-use Rattle.place.specs.Place.{editedIn, editedFrom, editedBetween}
+use Rattle.place.specs.Place.{editedIn, editedFrom, editedBetween, numberedFirst}
+use Rattle.place.proofs.Numbers.{numbered-if}
 
 -- as many records stay
 pub length-edited : (t : List Node) (a j : ℕ) (e : Edit) → length (editedFrom t a j e) ≡ length t
@@ -92,10 +94,17 @@ unfolding choose
 owed-if true t n to l e = ap (λ (m : ℕ). editedBetween t 0 m Owed) (e ∙ sym l) ∙ all-owed t
 owed-if false t n to l e = ap (λ (m : ℕ). editedBetween t 0 m Owed) e ∙ nothing-edited t 0 Owed
 
--- so a change is made: the record at its position edited, and then all owed the list or none
-pub change-made : (x : Change) (t zs us : List Node) (from to : ℕ) → from ≡ x .position - 1 → zs ≡ editedBetween t from (x .position) (x .edit) → length zs ≡ length t → to ≡ choose (x .owe) (length t) 0 → us ≡ editedBetween zs 0 to Owed
-    → us ≡ amended x t
-change-made x t zs us from to ef ez lz et eu = eu ∙ owed-if (x .owe) zs (length t) to lz et ∙ ap (λ (l : List Node). choose (x .owe) (oweAll l) l) one
+-- what is numbered and then owed the list, or neither, is listed anew or not
+listed-anew : (b : Bool) (t ns us : List Node) → ns ≡ choose b (numbered t) t → us ≡ choose b (oweAll ns) ns → us ≡ choose b (relisted t) t
+unfolding choose relisted
+listed-anew true t ns us en eu = eu ∙ ap oweAll en
+listed-anew false t ns us en eu = eu ∙ en
+
+-- so a change is made: the record at its position edited, and then all numbered and owed the list, or none
+pub change-made : (x : Change) (t zs ns us : List Node) (from to : ℕ) → from ≡ x .position - 1 → zs ≡ editedBetween t from (x .position) (x .edit) → length zs ≡ length t → to ≡ choose (x .owe) (length t) 0
+    → ns ≡ numberedFirst zs (min (length zs) to) → length ns ≡ length zs → us ≡ editedBetween ns 0 to Owed → us ≡ amended x t
+change-made x t zs ns us from to ef ez lz et en ln eu =
+    listed-anew (x .owe) zs ns us (en ∙ numbered-if (x .owe) zs (length t) to lz et) (eu ∙ owed-if (x .owe) ns (length t) to (ln ∙ lz) et) ∙ ap (λ (l : List Node). choose (x .owe) (relisted l) l) one
   where
     one : zs ≡ editedAt t (x .position) (x .edit)
     one = ez ∙ ap (λ (i : ℕ). editedBetween t i (x .position) (x .edit)) ef ∙ position-edited t (x .position) (x .edit)

@@ -1,6 +1,7 @@
 pub mod Walking
 pub mod Again
 pub mod Edits
+pub mod Numbers
 pub mod Locals
 pub mod Parts
 pub mod Payload

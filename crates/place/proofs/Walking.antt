@@ -21,7 +21,7 @@ unfoldable pub use contract.Running.{givenOf, tables, tablesOf}
 pub use types.Kit.{Given, Item, ‵, raw, _⊛_, some, later, ⋆, _$_, _∵_, !, qed, by, move, keep, use1, use2, use3, drop, split, join, pick, rewrite, fsplit, fjoin, feqL, suffices, frame, await, done, fsplit3, fjoin3, feqI, runs, atRet, Sq, anyQ, use0}
 pub use types.Run.{look, init, forget, stop, fld, from, load, lit, addr, of-opd, and-then, no-more, land, assigns, returns, enter, alloc1, alloc0, params1, pass1, pass0, free1, free0, hop, store, unit-lit, bin, assigns-last, first, blocks, stays, leaves-loop, exec, Below, again, loops, true-lit, branches, skips, returns-within}
 pub use types.Part.{agg, whole, sub, look-in, rep, store-in}
-pub use types.Tokens.{lft-new, lft-end}
+pub use types.Tokens.{lft-new, lft-end, lent-back}
 pub use types.SemTy.{Body}
 pub use sound.WpLaws.{FmC, fmOf, WpFn-mono}
 pub use denote.RattleType.{owns}
@@ -34,7 +34,7 @@ pub use denote.Slice.{sliceTy, sliceVal, MutSlice, ShrSlice, Room, slice-vals, s
 pub use denote.Signature.{plain}
 pub use denote.Steps.{owned, nothing, peeks, heard, only, opens, closes, looks, shuts}
 pub use denote.Array.{array-lawful, array-makes, Array, array-vals, array-tells, arrayVal}
-pub use denote.Lend.{Held, LentAgain, lends-again, comes-back}
+pub use denote.Lend.{Held, LentAgain, lends-again, comes-back, lends-shr-slice}
 pub use denote.Struct.Steps.{spelt}
 pub use denote.Triple.Statement.{Contract, Triple}
 pub use denote.Triple.Call.{calls-at}

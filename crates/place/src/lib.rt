@@ -9,29 +9,35 @@ use look::Digest;
 use look::Seen;
 ghost use mathlib.Core.Path.{_≡_};
 ghost use mathlib.Core.Bool.{true};
-ghost use Prim.Native.Nat.{_-_};
+ghost use Prim.Native.Nat.{_+_, _-_, min};
+ghost use lib.ListN.{length};
 ghost use Rattle.ground.specs.Choose.{choose};
 ghost use Rattle.board.specs.Table.{at};
+ghost use Rattle.board.specs.Wanted.{ofKindBelow};
 ghost use Rattle.coordinator.specs.State.{stateOf, composed};
 ghost use Rattle.look.specs.Digest.{digested, dg, digestAll};
 ghost use Rattle.change.specs.Change.{keptBytes, keepable, changedFrom, amended};
-ghost use Rattle.place.specs.Place.{placeOf, editedBetween};
+ghost use Rattle.place.specs.Place.{placeOf, editedBetween, numberedFirst};
 
 // Lent records read where they stand, at most forty of them: each is noted, and those that are listed go into the columns.
 fn digest(
     k: usize,
     nodes: &[Node],
     kinds: &mut [u8; 40],
-    marks: &mut [u8; 40],
+    indexes: &mut [u8; 40],
     macs: &mut [u64; 40],
 ) -> Digest
-    ensures { λ r. ⌜ digested r (now (kinds .exit)) (now (marks .exit)) (now (macs .exit)) ≡ digestAll k (now (nodes .entry)) (digested (dg true 0) (now (kinds .entry)) (now (marks .entry)) (now (macs .entry))) ⌝ }
+    ensures { λ r. ⌜ digested r (now (kinds .exit)) (now (indexes .exit)) (now (macs .exit)) ≡ digestAll k (now (nodes .entry)) (digested (dg true 0 0) (now (kinds .entry)) (now (indexes .entry)) (now (macs .entry))) ⌝ }
 {
     let m = ground::least(nodes.len(), 40);
-    let mut d = Digest { ok: true, top: 0 };
+    let mut d = Digest {
+        ok: true,
+        top: 0,
+        owed: 0,
+    };
     let mut i = 0;
     while i < m {
-        d = look::note(d, k, i, nodes[i], kinds, marks, macs);
+        d = look::note(d, k, i, nodes[i], kinds, indexes, macs);
         i = i + 1;
     }
     d
@@ -70,6 +76,34 @@ pub fn amend(nodes: &mut [Node], from: usize, to: usize, edit: Edit)
     let mut i = from;
     while i < m {
         nodes[i] = change::edited(edit, nodes[i]);
+        i = i + 1;
+    }
+}
+
+// How many of the first i records are of a type; 255 at most.
+fn kind_before(nodes: &[Node], kind: u8, i: usize) -> u8
+    ensures { λ r. ⌜ r ≡ min (ofKindBelow (now (nodes .entry)) kind (i + 1)) 255 ⌝ }
+{
+    let m = ground::least(nodes.len(), i);
+    let mut n = 0u8;
+    let mut j = 0;
+    while j < m {
+        n = board::counted(n, kind, nodes[j]);
+        j = j + 1;
+    }
+    n
+}
+
+// The first records up to `to`, each with its board's index counted: how many before it are of its type.
+pub fn number(nodes: &mut [Node], to: usize)
+    ensures { λ _. ⌜ now (nodes .exit) ≡ numberedFirst (now (nodes .entry)) (min (length (now (nodes .entry))) to) ⌝ }
+{
+    let m = ground::least(nodes.len(), to);
+    let mut i = 0;
+    while i < m {
+        let node = nodes[i];
+        let index = kind_before(nodes, node.kind, i);
+        nodes[i] = board::indexed(node, index);
         i = i + 1;
     }
 }
@@ -118,19 +152,20 @@ pub fn look(
     coordinator: &Coordinator,
     nodes: &[Node],
     kinds: &mut [u8; 40],
-    marks: &mut [u8; 40],
+    indexes: &mut [u8; 40],
     macs: &mut [u64; 40],
 ) -> Seen
-    ensures { λ r. ⌜ (r .setup ≡ now (coordinator .entry) .setup) × ((r .state ≡ stateOf (now (coordinator .entry))) × (digested (dg (r .ok) (r .top)) (now (kinds .exit)) (now (marks .exit)) (now (macs .exit)) ≡ digestAll (now (coordinator .entry) .setup .k) (now (nodes .entry)) (digested (dg true 0) (now (kinds .entry)) (now (marks .entry)) (now (macs .entry))))) ⌝ }
+    ensures { λ r. ⌜ (r .setup ≡ now (coordinator .entry) .setup) × ((r .state ≡ stateOf (now (coordinator .entry))) × (digested (dg (r .ok) (r .top) (r .owed)) (now (kinds .exit)) (now (indexes .exit)) (now (macs .exit)) ≡ digestAll (now (coordinator .entry) .setup .k) (now (nodes .entry)) (digested (dg true 0 0) (now (kinds .entry)) (now (indexes .entry)) (now (macs .entry))))) ⌝ }
 {
     let setup = coordinator.setup;
     let state = state_of(coordinator);
-    let d = digest(setup.k, nodes, kinds, marks, macs);
+    let d = digest(setup.k, nodes, kinds, indexes, macs);
     Seen {
         setup: setup,
         state: state,
         ok: d.ok,
         top: d.top,
+        owed: d.owed,
     }
 }
 
@@ -178,5 +213,6 @@ pub fn make(
     let from = below(change.position);
     amend(nodes, from, change.position, change.edit);
     let to = all_if(change.owe, nodes.len());
+    number(nodes, to);
     amend(nodes, 0, to, Edit::Owed);
 }

@@ -22,9 +22,10 @@ use Rattle.frame.proofs.RoundTrip.{reads-back, reads-back-payload}
 use Rattle.board.specs.declared.Node.{Node}
 use Rattle.board.specs.Table.{at, put}
 use Rattle.board.specs.declared.Wanted.the-variants.{Mac}
-use Rattle.board.specs.Wanted.{wantedAt, indexOf}
+use Rattle.board.specs.Wanted.{wantedAt}
 use Rattle.board.specs.Change.{heard, renewed, oweAll}
 use Rattle.board.proofs.Changes.{at-put, at-put-other, owe-all-keeps}
+use Rattle.board.proofs.Numbered.{relisted-keeps}
 use Rattle.setup.specs.Setup.{address}
 use Rattle.setup.specs.Fitness.{FitSetup}
 use Rattle.message.specs.Message.{signedHeader, signed, signedFrame, ackCode}
@@ -123,7 +124,7 @@ module _ (t : List Node) where
   -- a join changes those of nobody but who joins
   spared-join : (c : Coordinator) (kind mac session : ℕ) → Spared t (joinOf c t kind mac session .joined) (joinOf c t kind mac session .nodes)
   unfolding joinOf misses
-  spared-join c kind mac session p = by-rules Spares (joinRules c t kind mac) (refused c t) _ (each {Q = λ (r : Refusal). Spares (refused c t r)} (λ r. λ ne. refl) (joinRules c t kind mac)) (λ ok. λ ne. owe-all-keeps _ p .misses ∙ ap misses (at-put-other t _ p _ ne))
+  spared-join c kind mac session p = by-rules Spares (joinRules c t kind mac) (refused c t) _ (each {Q = λ (r : Refusal). Spares (refused c t r)} (λ r. λ ne. refl) (joinRules c t kind mac)) (λ ok. λ ne. relisted-keeps _ p .misses ∙ ap misses (at-put-other t _ p _ ne))
     where
       Spares : After → Type 0
       Spares a = (p ≡ a .joined → ⊥) → at (a .nodes) p .misses ≡ at t p .misses
@@ -324,19 +325,19 @@ heard-cleared c t b room a k = subst (λ (x : After). Cleared t (k .board) (x .n
 pub sought-spared : (c : Coordinator) (t : List Node) (b : List ℕ) (room : ℕ) (k : Sought c t b room) → Spared t (k .position) (receiveOf c t b room .nodes)
 sought-spared c t b room k = subst (λ (x : After). Spared t (k .position) (x .nodes)) (sym (k .does)) (spared-replied t c (k .position) (replyIn (k .part) (k .position) c (headerOf b) (payload b)) (payload b) room)
 
--- the ACK as its receiver reads it: to the sender of the frame, from 255, our subnet, method 0, parameter 1 0, the board's index, type 165, message 0, packet number 0x80;
+-- the ACK as its receiver reads it: to the sender of the frame, from 255, our subnet, method 0, parameter 1 0, the board's index on record, type 165, message 0, packet number 0x80;
 -- in its payload of 17 bytes code 6, our MAC and our session (01, "Turn": "Own frames"; 003, Table 49)
 pub record AckTo (c : Coordinator) (t : List Node) (board source : ℕ) (bytes : List ℕ) : Type 0 where
   pub sender : source ≡ address (c .setup) board
-  pub reads : reading bytes ≡ gives (source ∷ 255 ∷ c .setup .subnet ∷ 0 ∷ 0 ∷ indexOf t board ∷ 165 ∷ 0 ∷ 128 ∷ 17 ∷ [])
+  pub reads : reading bytes ≡ gives (source ∷ 255 ∷ c .setup .subnet ∷ 0 ∷ 0 ∷ at t board .index ∷ 165 ∷ 0 ∷ 128 ∷ 17 ∷ [])
   pub form : c .setup .session < 2 ^ 64 → Form 6 (c .setup .mac) (c .setup .session) (payloadOf bytes)
 
 ack-to : (c : Coordinator) (t : List Node) (board source : ℕ) → FitSetup (c .setup) → source ≡ address (c .setup) board → AckTo c t board source (signedFrame (c .setup) t board ackCode)
 ack-to c t board source f e =
     record {
       sender = e;
-      reads = reads-back (signedHeader (c .setup) t board) (signed (c .setup) ackCode) (signed-small (c .setup) ackCode) ∙ ap (λ (l : List ℕ). gives (l ++ length (signed (c .setup) ackCode) ∷ [])) (own-fields (c .setup) t board 0 128) ∙ (λ i. gives (sym e i ∷ 255 ∷ c .setup .subnet ∷ 0 ∷ 0 ∷ indexOf t board ∷ 165 ∷ 0 ∷ 128 ∷ signed-size (c .setup) ackCode i ∷ []));
-      form = λ l. subst (Form 6 (c .setup .mac) (c .setup .session)) (sym (reads-back-payload (signedHeader (c .setup) t board) (signed (c .setup) ackCode) (signed-small (c .setup) ackCode))) (ack-form (c .setup) (omega (arith, f .mac .below)) l);
+      reads = reads-back (signedHeader (c .setup) board (at t board .index)) (signed (c .setup) ackCode) (signed-small (c .setup) ackCode) ∙ ap (λ (l : List ℕ). gives (l ++ length (signed (c .setup) ackCode) ∷ [])) (own-fields (c .setup) board (at t board .index) 0 128) ∙ (λ i. gives (sym e i ∷ 255 ∷ c .setup .subnet ∷ 0 ∷ 0 ∷ at t board .index ∷ 165 ∷ 0 ∷ 128 ∷ signed-size (c .setup) ackCode i ∷ []));
+      form = λ l. subst (Form 6 (c .setup .mac) (c .setup .session)) (sym (reads-back-payload (signedHeader (c .setup) board (at t board .index)) (signed (c .setup) ackCode) (signed-small (c .setup) ackCode))) (ack-form (c .setup) (omega (arith, f .mac .below)) l);
     }
 
 -- where the panel delivers or transmits it writes an ACK that reads well to the sender of the frame, and elsewhere nothing

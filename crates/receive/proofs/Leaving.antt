@@ -25,6 +25,8 @@ use Rattle.frame.proofs.Told.{WellRead, read-frame}
 use Rattle.board.specs.declared.Node.{Node}
 use Rattle.board.specs.Table.{at, put}
 use Rattle.board.specs.Change.{heard, renewed, oweAll}
+use Rattle.board.proofs.Numbered.{put-numbered}
+use Rattle.setup.specs.Fitness.{FitTable}
 use Rattle.board.specs.Columns.{kindsOf, typed}
 use Rattle.board.proofs.SameKinds.{SameKinds}
 use Rattle.setup.specs.declared.Setup.{Setup}
@@ -33,7 +35,6 @@ use Rattle.nodelist.specs.List.{sameList, sameTo}
 use Rattle.nodelist.proofs.Theorems.{same-to-top}
 use Rattle.routing.specs.Route.{routeOf}
 use Rattle.routing.proofs.Theorems.{kinds-route}
-use Rattle.message.proofs.Messages.{kinds-header}
 use Rattle.message.specs.Message.{signedHeader, signed, signedFrame, ackCode, Sends}
 use Rattle.accept.proofs.Heard as hearings
 use Rattle.accept.specs.declared.Heard.{Heard as Hearing}
@@ -84,13 +85,13 @@ acked-ends Forward board requester c t k = absurd (miss (0 ∷ 1 ∷ 3 ∷ []) 2
 acked-ends Return board requester c t k = refl
 
 -- an ACK that is heard
-pub makes-heard : (b : List ℕ) (c : Coordinator) (t : List Node) (m : Move) (board session : ℕ) (a : Answer) {x : Change} {n : Node} → x ≡ hearing m board n session a → n ≡ at t board → applied x b c t ≡ leaving (moved m b c) (hearAck t board session) (told a) 0 0 0
+pub makes-heard : (b : List ℕ) (c : Coordinator) (t : List Node) (m : Move) (board session : ℕ) (a : Answer) {x : Change} {n : Node} → x ≡ hearing m board n session a → FitTable (c .setup .k) t → n ≡ at t board → applied x b c t ≡ leaving (moved m b c) (hearAck t board session) (told a) 0 0 0
 unfolding choose
-makes-heard b c t m board session a {x} {n} h e = go (eqb session (at t board .session)) (h ∙ ap (λ (k : Node). hearing m board k session a) e)
+makes-heard b c t m board session a {x} {n} h f e = go (eqb session (at t board .session)) (h ∙ ap (λ (k : Node). hearing m board k session a) e)
   where
     go : (known : Bool) → x ≡ choose known (changing m board Heard false a 0 0 0) (changing m board (Renewed session) true a 0 0 0) → applied x b c t ≡ leaving (moved m b c) (choose known (hear t board) (oweAll (put t board (renewed (heard (at t board)) session)))) (told a) 0 0 0
     go true q = makes-edit b c t board Heard a 0 0 0 q
-    go false q = makes-owed b c t board (Renewed session) a 0 0 0 q
+    go false q = makes-owed b c t board (Renewed session) a 0 0 0 (f .boards .forty) (put-numbered t board (renewed (heard (at t board)) session) refl refl (f .numbered)) q
 
 -- for an ACK nothing is written
 pub shows-ack : {s : Shown} (o : List ℕ) (e : Exchange) (board requester : ℕ) (c : Coordinator) (t : List Node) → s ≡ shows (acked e board requester c t) → Shows (acked e board requester c t) s o o
@@ -108,14 +109,23 @@ ackedAs (NotWritten q) after board answer = changing Stay 0 Nothing false (Refus
 pub keeps-brought : (c : Coordinator) (w : Phase) (b : List ℕ) (h : Header) (p : List ℕ) → Brings b h p → moved (Keeping w) b c ≡ withPhase (keeping c (keptOf h p)) w
 keeps-brought c w b h p brought = λ i. withPhase (keeping c (keptAs (brought .0 i) (keptBytes (brought .1 i)))) w
 
+-- an ACK that is due: of its writing only 11 can be given, and its frame has 29 bytes
+module _ {seen : Seen} {c : Coordinator} {t : List Node} (s : Saw seen c t) (b : List ℕ) (board : ℕ) {index : ℕ} (i : index ≡ at t board .index) (answer : Answer) (after : Move) (before left : List ℕ) where
+  pub shows-acking : (w : Writing) → Sends (signedHeader (seen .setup) board index) (signed (seen .setup) ackCode) w before left → Shows (acking c t board (length before) (told answer) (moved after b c)) (applied (ackedAs w after board answer) b c t) before left
+  unfolding choose
+  shows-acking w sends = leaves-ack-written (c .setup) t board c t frame refl (made (ackedAs w after board answer) b c t) before left w (rw (i, s .setup) at sends) (shown-as w)
+    where
+      frame : After
+      frame = accepted (moved after b c) (hear t board) (told answer) (signedFrame (c .setup) t board ackCode)
+
+      shown-as : (v : Writing) → applied (ackedAs v after board answer) b c t ≡ shownAs v c t frame
+      shown-as (Written n) = refl
+      shown-as (NotWritten q) = makes-refusal b c t q refl
+
 -- what was seen of the types tells what they tell of the records
 module _ {seen : Seen} {kinds : List ℕ} {c : Coordinator} {t : List Node} (s : Saw seen c t) (k : kinds ≡ kindsOf t) where
   same : SameKinds (typed kinds) t
   same = kinds-seen s k
-
-  -- the header of an ACK
-  header-seen : (board : ℕ) → signedHeader (seen .setup) (typed kinds) board ≡ signedHeader (c .setup) t board
-  header-seen board = rw (s .setup) (kinds-header same (c .setup) board 0 128)
 
   -- where a request goes
   route-seen : (sender method parameter : ℕ) → routeOf (typed kinds) (seen .setup .k) sender method parameter ≡ routeOf t (c .setup .k) sender method parameter
@@ -124,19 +134,6 @@ module _ {seen : Seen} {kinds : List ℕ} {c : Coordinator} {t : List Node} (s :
   -- whether a payload is the list
   pub list-seen : (p : List ℕ) → sameTo (seen .top) (seen .setup .internal) (typed kinds) p ≡ sameList (c .setup .internal) t p
   list-seen p = rw (s .setup, s .top) (same-to-top same (c .setup .internal) p)
-
-  -- an ACK that is due: of its writing only 11 can be given, and its frame has 29 bytes
-  module _ (b : List ℕ) (board : ℕ) (answer : Answer) (after : Move) (before left : List ℕ) where
-    pub shows-acking : (w : Writing) → Sends (signedHeader (seen .setup) (typed kinds) board) (signed (seen .setup) ackCode) w before left → Shows (acking c t board (length before) (told answer) (moved after b c)) (applied (ackedAs w after board answer) b c t) before left
-    unfolding choose
-    shows-acking w sends = leaves-ack-written (c .setup) t board c t frame refl (made (ackedAs w after board answer) b c t) before left w (rw (header-seen board, s .setup) at sends) (shown-as w)
-      where
-        frame : After
-        frame = accepted (moved after b c) (hear t board) (told answer) (signedFrame (c .setup) t board ackCode)
-
-        shown-as : (v : Writing) → applied (ackedAs v after board answer) b c t ≡ shownAs v c t frame
-        shown-as (Written n) = refl
-        shown-as (NotWritten q) = makes-refusal b c t q refl
 
   -- a request that is routed: kept for its board, or discarded where there is none
   module _ (h : Header) (p : List ℕ) (board : ℕ) {to : ℕ} (e : to ≡ routeOf (typed kinds) (seen .setup .k) board (h .method) (h .parameter1)) where

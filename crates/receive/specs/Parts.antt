@@ -14,6 +14,7 @@ use Rattle.board.specs.Table.{at}
 use Rattle.board.specs.Columns.{kindsOf}
 use Rattle.accept.specs.declared.Heard.{Heard}
 use Rattle.accept.specs.declared.Heard.the-variants.{Ack, Echo, Deliver, Route, Answer as Response, Refused}
+use Rattle.setup.specs.Fitness.{FitTable}
 use Rattle.coordinator.specs.declared.Coordinator.{Coordinator}
 use Rattle.coordinator.specs.declared.Exchange.{Exchange}
 use Rattle.coordinator.specs.declared.Phase.{Phase}
@@ -43,15 +44,15 @@ abbrev pub hearing : Move → ℕ → Node → ℕ → Answer → Change
 hearing m board n session answer =
     choose (eqb session (n .session)) (changing m board ToHear false answer 0 0 0) (changing m board (Renewed session) true answer 0 0 0)
 
--- the change of an ACK that is accepted, whatever was received: it is heard from the board of which this is the record, and ends its wait or not (01, "Frame")
+-- the change of an ACK that is accepted, whatever was received and whatever fit records it is made for: it is heard from the board of which this is the record, and ends its wait or not (01, "Frame")
 abbrev pub Acknowledges : Node → Exchange → ℕ → ℕ → ℕ → Change → Type 0
 Acknowledges n exchange board requester session x =
-    (b : List ℕ) (c : Coordinator) (t : List Node) → n ≡ at t board → applied x b c t ≡ shows (acked exchange board requester c (hearAck t board session))
+    (b : List ℕ) (c : Coordinator) (t : List Node) → FitTable (c .setup .k) t → n ≡ at t board → applied x b c t ≡ shows (acked exchange board requester c (hearAck t board session))
 
--- the change of an ACK that is due, whatever was received: the coordinator then moves (01, "Frame")
-abbrev pub Acks : Seen → List ℕ → ℕ → Answer → Move → Change → List ℕ → List ℕ → Type 0
-Acks seen kinds board answer after x before left =
-    (b : List ℕ) → Takes seen (OfTypes kinds) b (λ c t. acking c t board (length before) (told answer) (moved after b c)) x before left
+-- the change of an ACK that is due to a board with this index, whatever was received: the coordinator then moves (01, "Frame")
+abbrev pub Acks : Seen → ℕ → ℕ → Answer → Move → Change → List ℕ → List ℕ → Type 0
+Acks seen board index answer after x before left =
+    (b : List ℕ) → Takes seen (λ c t. index ≡ at t board .index) b (λ c t. acking c t board (length before) (told answer) (moved after b c)) x before left
 
 -- what a frame is to a wait for a board of which this is the record
 abbrev pub Hears : Seen → List ℕ → Node → Exchange → Bool → Header → List ℕ → Heard → Type 0

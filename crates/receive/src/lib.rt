@@ -22,7 +22,7 @@ ghost use Rattle.board.specs.Table.{at};
 ghost use Rattle.board.specs.Columns.{kindsOf};
 ghost use Rattle.coordinator.specs.Phase.{phaseOf};
 ghost use Rattle.coordinator.specs.State.{bare};
-ghost use Rattle.look.specs.Seen.{OfColumns};
+ghost use Rattle.look.specs.Seen.{OfMacs};
 ghost use Rattle.steps.specs.Receive.{isSeeking, answersForward, isStray, takenAs, receiveOf};
 ghost use Rattle.steps.specs.Seek.{sourceIn};
 ghost use Rattle.change.specs.Decides.{Takes, Decides};
@@ -65,18 +65,18 @@ fn acknowledged(
     }
 }
 
-// Writes the ACK due to the sender; where there is room for it the board is heard, and the coordinator moves.
+// Writes the ACK due to the sender, who has this index; where there is room for it the board is heard, and the coordinator moves.
 fn acking(
     seen: Seen,
-    kinds: &[u8; 40],
     board: usize,
+    index: u8,
     answer: Answer,
     after: Move,
     out: &mut [u8],
 ) -> Change
-    ensures { λ r. ⌜ Acks seen (now (kinds .entry)) board answer after r (now (out .entry)) (now (out .exit)) ⌝ }
+    ensures { λ r. ⌜ Acks seen board index answer after r (now (out .entry)) (now (out .exit)) ⌝ }
 {
-    match message::write_signed(seen.setup, kinds, board, 6, out) {
+    match message::write_signed(seen.setup, board, index, 6, out) {
         Writing::Written(n) => change::changing(after, board, Edit::Heard, answer, n),
         Writing::Refused(refusal) => change::refusing(refusal),
     }
@@ -176,7 +176,7 @@ fn taken(
         _ => {
             let next = following(heard, seen, kinds, board, requester, header);
             let Next { answer, moves } = next;
-            acking(seen, kinds, board, answer, moves, out)
+            acking(seen, board, node.index, answer, moves, out)
         }
     }
 }
@@ -231,29 +231,18 @@ fn sought(
     position: usize,
     seen: Seen,
     kinds: &[u8; 40],
-    marks: &[u8; 40],
     macs: &[u64; 40],
     header: Header,
     payload: &[u8],
     out: &mut [u8],
 ) -> Change
-    ensures { λ r. ⌜ Decides seen (OfColumns (now (kinds .entry)) (now (marks .entry)) (now (macs .entry))) (λ c t. waited (Phase.Seeking position part) c t header (now (payload .entry)) (length (now (out .entry)))) r (now (out .entry)) (now (out .exit)) ⌝ }
+    ensures { λ r. ⌜ Decides seen (OfMacs (now (kinds .entry)) (now (macs .entry))) (λ c t. waited (Phase.Seeking position part) c t header (now (payload .entry)) (length (now (out .entry)))) r (now (out .entry)) (now (out .exit)) ⌝ }
 {
     let source = source_in(part, seen.setup, position);
     if !(steps::is_waiting(part) & (header.source == source)) {
         return change::refusing(Refusal::NotAwaited);
     }
-    seek::sought(
-        part,
-        position,
-        seen,
-        kinds,
-        marks,
-        macs,
-        header,
-        payload,
-        out,
-    )
+    seek::sought(part, position, seen, kinds, macs, header, payload, out)
 }
 
 // Whether an exchange by which a board joins runs.
@@ -326,14 +315,13 @@ fn waited(
     seen: Seen,
     node: Node,
     kinds: &[u8; 40],
-    marks: &[u8; 40],
     macs: &[u64; 40],
     phase: Phase,
     header: Header,
     payload: &[u8],
     out: &mut [u8],
 ) -> Change
-    ensures { λ r. ⌜ TakesFrame seen (λ c t. OfColumns (now (kinds .entry)) (now (marks .entry)) (now (macs .entry)) c t × ((node ≡ at t (c .stand .board)) × (phase ≡ phaseOf (c .stand)))) header (now (payload .entry)) (λ c t. waited phase c t header (now (payload .entry)) (length (now (out .entry)))) r (now (out .entry)) (now (out .exit)) ⌝ }
+    ensures { λ r. ⌜ TakesFrame seen (λ c t. OfMacs (now (kinds .entry)) (now (macs .entry)) c t × ((node ≡ at t (c .stand .board)) × (phase ≡ phaseOf (c .stand)))) header (now (payload .entry)) (λ c t. waited phase c t header (now (payload .entry)) (length (now (out .entry)))) r (now (out .entry)) (now (out .exit)) ⌝ }
 {
     match phase {
         Phase::Awaiting {
@@ -354,7 +342,7 @@ fn waited(
             out,
         ),
         Phase::Seeking { position: at, part } => {
-            sought(part, at, seen, kinds, marks, macs, header, payload, out)
+            sought(part, at, seen, kinds, macs, header, payload, out)
         }
         _ => change::refusing(Refusal::NotAwaited),
     }
@@ -365,13 +353,12 @@ fn listened(
     seen: Seen,
     node: Node,
     kinds: &[u8; 40],
-    marks: &[u8; 40],
     macs: &[u64; 40],
     header: Header,
     payload: &[u8],
     out: &mut [u8],
 ) -> Change
-    ensures { λ r. ⌜ TakesFrame seen (λ c t. OfColumns (now (kinds .entry)) (now (marks .entry)) (now (macs .entry)) c t × (node ≡ at t (c .stand .board))) header (now (payload .entry)) (λ c t. listened (phaseOf (c .stand)) c t header (now (payload .entry)) (length (now (out .entry)))) r (now (out .entry)) (now (out .exit)) ⌝ }
+    ensures { λ r. ⌜ TakesFrame seen (λ c t. OfMacs (now (kinds .entry)) (now (macs .entry)) c t × (node ≡ at t (c .stand .board))) header (now (payload .entry)) (λ c t. listened (phaseOf (c .stand)) c t header (now (payload .entry)) (length (now (out .entry)))) r (now (out .entry)) (now (out .exit)) ⌝ }
 {
     if header.destination != 255 {
         return change::refusing(Refusal::NotForUs);
@@ -380,7 +367,7 @@ fn listened(
     if is_stray(phase, seen.state.head, header.message) {
         return change::refusing(Refusal::NotDiscovering);
     }
-    waited(seen, node, kinds, marks, macs, phase, header, payload, out)
+    waited(seen, node, kinds, macs, phase, header, payload, out)
 }
 
 // The step of bytes received, of a coordinator and records that are fit. The node is the record of the board that the
@@ -389,26 +376,16 @@ pub fn receive(
     seen: Seen,
     node: Node,
     kinds: &[u8; 40],
-    marks: &[u8; 40],
     macs: &[u64; 40],
     received: &[u8],
     out: &mut [u8],
 ) -> Change
-    ensures { λ r. ⌜ Takes seen (λ c t. OfColumns (now (kinds .entry)) (now (marks .entry)) (now (macs .entry)) c t × (node ≡ at t (c .stand .board))) (now (received .entry)) (λ c t. receiveOf c t (now (received .entry)) (length (now (out .entry)))) r (now (out .entry)) (now (out .exit)) ⌝ }
+    ensures { λ r. ⌜ Takes seen (λ c t. OfMacs (now (kinds .entry)) (now (macs .entry)) c t × (node ≡ at t (c .stand .board))) (now (received .entry)) (λ c t. receiveOf c t (now (received .entry)) (length (now (out .entry)))) r (now (out .entry)) (now (out .exit)) ⌝ }
 {
     match frame::read(received) {
         Reading::Frame(header, n) => {
             let end = 10 + n;
-            listened(
-                seen,
-                node,
-                kinds,
-                marks,
-                macs,
-                header,
-                &received[10..end],
-                out,
-            )
+            listened(seen, node, kinds, macs, header, &received[10..end], out)
         }
         Reading::Refused(refusal) => change::refusing(refusal),
     }

@@ -56,8 +56,8 @@ module _ {s : Seen} {c : Coordinator} {t : List Node} (saw : Saw s c t) where
   held-seen h = h ∙ rw (saw .state, saw .top, some-highest t) refl
 
   -- the same was seen of the coordinator at rest
-  pub saw-ended : {next : State} → next ≡ stateOf (ended (stated (s .state))) → Saw (record { setup = s .setup; state = next; ok = s .ok; top = s .top }) (ended c) t
-  saw-ended h = record { fit = ended-fits c t (saw .fit); setup = saw .setup; state = h ∙ ap (λ (x : State). stateOf (ended (stated x))) (saw .state); top = saw .top }
+  pub saw-ended : {next : State} → next ≡ stateOf (ended (stated (s .state))) → Saw (record { setup = s .setup; state = next; ok = s .ok; top = s .top; owed = s .owed }) (ended c) t
+  saw-ended h = record { fit = ended-fits c t (saw .fit); setup = saw .setup; state = h ∙ ap (λ (x : State). stateOf (ended (stated x))) (saw .state); top = saw .top; owed = saw .owed }
 
   -- a board is heard where the MAC is its own; where nobody is listed the record is blank, and hearing it changes nothing
   hear-seen : {macs : List ℕ} (position mac : ℕ) → macs ≡ macsOf t → editedAt t position (hearing macs position mac) ≡ hearMac t position mac

@@ -6,8 +6,7 @@ use mathlib.Core.Bool.{Bool, true, false, _&&_}
 use mathlib.Core.List.{List, [], _∷_}
 use lib.Dec.{eqb, leb, ltb}
 use lib.ListN.{length, set, length-set, length-map}
-use lib.Seq.{map-set-same}
-use borrow.Author.Tests.{eqb-false, lt-ltb, le-leb, ltb-true, ltb-false}
+use borrow.Author.Tests.{eqb-false, lt-ltb, le-leb}
 use Rattle.ground.specs.Choose.{choose}
 use Rattle.ground.proofs.Choices.{choose-yes, both}
 use Rattle.refusal.specs.declared.Refusal.{Refusal}
@@ -16,16 +15,18 @@ use Rattle.frame.specs.declared.Writing.{Writing}
 use Rattle.frame.specs.declared.Writing.the-variants.{Written, Refused as NotWritten}
 use Rattle.board.specs.declared.Node.{Node}
 use Rattle.board.specs.declared.Wanted.the-variants.{Mac}
-use Rattle.board.specs.Node.{none}
 use Rattle.board.specs.Table.{at}
-use Rattle.board.specs.Wanted.{wantedAt}
-use Rattle.board.specs.Change.{joinedNode, heard, oweAll}
+use Rattle.board.specs.Wanted.{wantedAt, indexOf}
+use Rattle.board.specs.Index.{Numbered}
+use Rattle.board.specs.Change.{joinedNode, heard}
 use Rattle.board.specs.Columns.{kindOf, kindsOf, typed}
-use Rattle.board.proofs.Positions.{at-position, put-position, put-zero}
+use Rattle.board.proofs.Positions.{put-position}
 use Rattle.board.proofs.SameKinds.{kinds-index}
-use Rattle.board.proofs.Columns.{typed-kinds}
-use Rattle.setup.specs.Fitness.{Position}
-use Rattle.message.specs.Message.{ownHeader, signedHeader, signed, ackCode, Sends}
+use Rattle.board.proofs.Columns.{typed-kinds, same-kinds}
+use Rattle.board.proofs.Changes.{put-length, put-alike}
+use Rattle.board.proofs.Numbered.{put-numbered, relisted-kinds, relisted-length, relisted-stored}
+use Rattle.setup.specs.Fitness.{Position, FitTable}
+use Rattle.message.specs.Message.{signedHeader, signed, ackCode, Sends}
 use Rattle.coordinator.specs.declared.Coordinator.{Coordinator}
 use Rattle.coordinator.specs.declared.Found.{Found}
 use Rattle.coordinator.specs.Fit.{fits}
@@ -52,23 +53,13 @@ kinds-set [] i n = refl
 kinds-set (x ∷ t) zero n = refl
 kinds-set (x ∷ t) (suc i) n = ap (λ (l : List ℕ). x .kind ∷ l) (kinds-set t i n)
 
--- owing the list to all changes no type
-kinds-owed : (t : List Node) → kindsOf (oweAll t) ≡ kindsOf t
-unfolding oweAll
-kinds-owed [] = refl
-kinds-owed (n ∷ t) = ap (λ (l : List ℕ). n .kind ∷ l) (kinds-owed t)
-
--- and hearing a board neither
+-- hearing a board changes no type
 kinds-heard : (t : List Node) (p mac : ℕ) → kindsOf (hearMac t p mac) ≡ kindsOf t
 unfolding choose
 kinds-heard t p mac = go (wantedAt (Mac mac) t p)
   where
-    here : (b : Bool) → ltb 0 p ≡ b → kindsOf (hear t p) ≡ kindsOf t
-    here true h = ap kindsOf (put-position t p (heard (at t p)) (ltb-true 0 p h)) ∙ map-set-same kindOf t (p - 1) (heard (at t p)) none (ap kindOf (at-position t p (ltb-true 0 p h)))
-    here false h = ap kindsOf (put-zero t p (heard (at t p)) (ltb-false 0 p h))
-
     go : (b : Bool) → kindsOf (choose b (hear t p) t) ≡ kindsOf t
-    go true = here (ltb 0 p) refl
+    go true = put-alike kindOf t p (heard (at t p)) refl
     go false = refl
 
 -- the types after a step that may have joined a board of this type
@@ -84,10 +75,26 @@ join-retypes c t fit kind mac session = by-rules (Retypes t kind) (joinRules c t
     n = chosen t (c .setup .k) mac
 
     taken : Passed (joinRules c t kind mac) → Retypes t kind (joinedAs c t kind mac session)
-    taken rules = sym (choose-yes _ _ _ _ (both _ _ (lt-ltb 0 n (within .from)) (le-leb n 40 (omega (arith, within .upTo, fit-told c t fit .setup .pool .upTo)))) (kinds-owed _ ∙ ap kindsOf (put-position t n (joinedNode kind mac session) (within .from)) ∙ kinds-set t (n - 1) (joinedNode kind mac session)))
+    taken rules = sym (choose-yes _ _ _ _ (both _ _ (lt-ltb 0 n (within .from)) (le-leb n 40 (omega (arith, within .upTo, fit-told c t fit .setup .pool .upTo)))) (same-kinds (relisted-kinds _) (relisted-length _) ∙ ap kindsOf (put-position t n (joinedNode kind mac session) (within .from)) ∙ kinds-set t (n - 1) (joinedNode kind mac session)))
       where
         within : Position (c .setup .k) n
         within = chosen-within t (c .setup .k) mac (eqb-false n 0 (rules .1 .1 .1 .1 .1 .0))
+
+-- stored is counted after hearing a board too, and after a join
+numbered-heard : (t : List Node) (p mac : ℕ) → Numbered t → Numbered (hearMac t p mac)
+unfolding choose
+numbered-heard t p mac stored = go (wantedAt (Mac mac) t p)
+  where
+    go : (b : Bool) → Numbered (choose b (hear t p) t)
+    go true = put-numbered t p (heard (at t p)) refl refl stored
+    go false = stored
+
+numbered-join : (c : Coordinator) (t : List Node) → fits c t ≡ true → (kind mac session : ℕ) → Numbered (joinOf c t kind mac session .nodes)
+unfolding joinOf
+numbered-join c t fit kind mac session = by-rules (λ (a : After). Numbered (a .nodes)) (joinRules c t kind mac) (refused c t) (joinedAs c t kind mac session) (each {Q = λ (r : Refusal). Numbered t} (λ r. table .numbered) (joinRules c t kind mac)) (λ _. relisted-stored _ (put-length t _ _ ∙ table .boards .forty))
+  where
+    table : FitTable (c .setup .k) t
+    table = fit-told c t fit .table
 
 -- what the caller is shown of the ACK, by what its writing gave and by what was shown of how the exchange ends
 abbrev ackShown : Writing → Coordinator → List Node → Shown → Shown
@@ -131,15 +138,23 @@ module _ (c : Coordinator) (t : List Node) (position : ℕ) (f : Found) where
         go true = length-set (kindsOf t) _ _
         go false = refl
 
-    -- so the header of the ACK is theirs
-    ack-header : {types : List ℕ} {joined : ℕ} → types ≡ retyped kinds joined (f .kind) → joined ≡ outcome c t position f .joined → signedHeader (s .setup) (typed types) position ≡ signedHeader (c .setup) (outcome c t position f .nodes) position
-    unfolding ownHeader
-    ack-header e j = rw (saw .setup, e, known, j, outcome-retypes (saw .fit), kinds-index (typed-kinds (outcome c t position f .nodes) outcome-forty) position) refl
+    -- and stored is counted in them
+    outcome-numbered : Numbered (outcome c t position f .nodes)
+    unfolding choose
+    outcome-numbered = go (eqb (joinFound c t f .joined) position)
+      where
+        go : (b : Bool) → Numbered (choose b (joinFound c t f) (resting (ended c) (hearMac t position (f .mac)) 0 0) .nodes)
+        go true = numbered-join (ended c) t (ended-fits c t (saw .fit)) (f .kind) (f .mac) (f .session)
+        go false = numbered-heard t position (f .mac) (fit-told c t (saw .fit) .table .numbered)
+
+    -- so what is counted among the types after it is the index that the ACK carries
+    ack-index : {types : List ℕ} {joined index : ℕ} → types ≡ retyped kinds joined (f .kind) → joined ≡ outcome c t position f .joined → index ≡ indexOf (typed types) position → index ≡ at (outcome c t position f .nodes) position .index
+    ack-index e j i = i ∙ rw (e, known, j, outcome-retypes (saw .fit)) (kinds-index (typed-kinds (outcome c t position f .nodes) outcome-forty) position ∙ sym (outcome-numbered position))
 
     -- where the ACK carries the index of the records that the end leaves, it leaves what the definition says
-    pub leaves-settled : (x : Change) (p before after : List ℕ) (ending : Change) → applied ending p c t ≡ shows (outcome c t position f) → {types : List ℕ} → types ≡ retyped kinds (ending .outcome .joined) (f .kind) → (w : Writing) → Sends (signedHeader (s .setup) (typed types) position) (signed (s .setup) ackCode) w before after → applied x p c t ≡ ackShown w c t (applied ending p c t)
+    pub leaves-settled : (x : Change) (p before after : List ℕ) (ending : Change) → applied ending p c t ≡ shows (outcome c t position f) → {types : List ℕ} → types ≡ retyped kinds (ending .outcome .joined) (f .kind) → {index : ℕ} → index ≡ indexOf (typed types) position → (w : Writing) → Sends (signedHeader (s .setup) position index) (signed (s .setup) ackCode) w before after → applied x p c t ≡ ackShown w c t (applied ending p c t)
         → Leaves (settled c t position f (length before)) (made x p c t) before after
-    leaves-settled x p before after ending e types w sends h =
+    leaves-settled x p before after ending e types index w sends h =
         leaves-ack-written (c .setup) (outcome c t position f .nodes) position c t (acknowledged (c .setup) position (outcome c t position f)) refl (made x p c t) before after w
-        (rw (ack-header types (ap (λ (y : Shown). y .joined) e), saw .setup) at sends)
+        (rw (ack-index types (ap (λ (y : Shown). y .joined) e) index, saw .setup) at sends)
         (h ∙ ap (ackShown w c t) e ∙ as-written w)

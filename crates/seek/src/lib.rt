@@ -27,7 +27,7 @@ ghost use Rattle.board.specs.Columns.{macsOf};
 ghost use Rattle.accept.specs.Replies.{toldReply};
 ghost use Rattle.coordinator.specs.declared.Coordinator.{Coordinator};
 ghost use Rattle.coordinator.specs.State.{stateOf};
-ghost use Rattle.look.specs.Seen.{OfTypes, OfMarks, OfColumns};
+ghost use Rattle.look.specs.Seen.{OfTypes, OfMacs};
 ghost use Rattle.steps.specs.After.{refused, shows};
 ghost use Rattle.steps.specs.Seek.{joinFound, answered, present, outcome, settled, replyIn, repliedAs, soughtIn, quietInSeek};
 ghost use Rattle.steps.specs.Discover.{discoverRules, searched, discoverOf};
@@ -63,11 +63,11 @@ fn search(seen: Seen, kinds: &[u8; 40], out: &mut [u8]) -> Change
 }
 
 // Starts a discovery: writes Node Discovery, and waits for whoever has no address.
-pub fn discover(seen: Seen, kinds: &[u8; 40], marks: &[u8; 40], out: &mut [u8]) -> Change
-    ensures { λ r. ⌜ Decides seen (OfMarks (now (kinds .entry)) (now (marks .entry))) (λ c t. discoverOf c t (length (now (out .entry)))) r (now (out .entry)) (now (out .exit)) ⌝ }
+pub fn discover(seen: Seen, kinds: &[u8; 40], out: &mut [u8]) -> Change
+    ensures { λ r. ⌜ Decides seen (OfTypes (now (kinds .entry))) (λ c t. discoverOf c t (length (now (out .entry)))) r (now (out .entry)) (now (out .exit)) ⌝ }
 {
     let state = seen.state;
-    if join::is_busy(state, seen.top, marks) {
+    if join::is_busy(state, seen.owed) {
         return change::refusing(Refusal::Busy);
     }
     if is_held_back(state, seen.top) {
@@ -110,42 +110,22 @@ fn found_at(payload: &[u8], at: usize) -> Found
 }
 
 // The join of a board, on the coordinator at rest.
-fn join_found(
-    seen: Seen,
-    kinds: &[u8; 40],
-    marks: &[u8; 40],
-    macs: &[u64; 40],
-    found: Found,
-) -> Change
-    ensures { λ r. ⌜ Makes seen (OfColumns (now (kinds .entry)) (now (marks .entry)) (now (macs .entry))) (λ c t. joinFound c t found) r ⌝ }
+fn join_found(seen: Seen, kinds: &[u8; 40], macs: &[u64; 40], found: Found) -> Change
+    ensures { λ r. ⌜ Makes seen (OfMacs (now (kinds .entry)) (now (macs .entry))) (λ c t. joinFound c t found) r ⌝ }
 {
     let state = seen.state;
     let mut rested = seen;
     rested.state = coordinator::ended(state);
-    let joined = join::join(
-        rested,
-        kinds,
-        marks,
-        macs,
-        found.kind,
-        found.mac,
-        found.session,
-    );
+    let joined = join::join(rested, kinds, macs, found.kind, found.mac, found.session);
     change::ending(joined)
 }
 
 // The discovery was answered. Where who answered could join, the position that it would take is at stake; else the
 // exchange breaks off.
-fn answered(
-    seen: Seen,
-    kinds: &[u8; 40],
-    marks: &[u8; 40],
-    macs: &[u64; 40],
-    found: Found,
-) -> Change
-    ensures { λ r. ⌜ Makes seen (OfColumns (now (kinds .entry)) (now (marks .entry)) (now (macs .entry))) (λ c t. answered c t found) r ⌝ }
+fn answered(seen: Seen, kinds: &[u8; 40], macs: &[u64; 40], found: Found) -> Change
+    ensures { λ r. ⌜ Makes seen (OfMacs (now (kinds .entry)) (now (macs .entry))) (λ c t. answered c t found) r ⌝ }
 {
-    let joined = join_found(seen, kinds, marks, macs, found);
+    let joined = join_found(seen, kinds, macs, found);
     let position = joined.outcome.joined;
     if 0 < position {
         let next = Move::Finding(found, position);
@@ -180,17 +160,10 @@ fn present(seen: Seen, macs: &[u64; 40], position: usize, mac: u64) -> Change
 }
 
 // How the exchange ends: who answered joins, where it takes the position at stake; else nobody does.
-fn outcome(
-    seen: Seen,
-    kinds: &[u8; 40],
-    marks: &[u8; 40],
-    macs: &[u64; 40],
-    position: usize,
-    found: Found,
-) -> Change
-    ensures { λ r. ⌜ Makes seen (OfColumns (now (kinds .entry)) (now (marks .entry)) (now (macs .entry))) (λ c t. outcome c t position found) r ⌝ }
+fn outcome(seen: Seen, kinds: &[u8; 40], macs: &[u64; 40], position: usize, found: Found) -> Change
+    ensures { λ r. ⌜ Makes seen (OfMacs (now (kinds .entry)) (now (macs .entry))) (λ c t. outcome c t position found) r ⌝ }
 {
-    let joined = join_found(seen, kinds, marks, macs, found);
+    let joined = join_found(seen, kinds, macs, found);
     if joined.outcome.joined == position {
         return joined;
     }
@@ -212,23 +185,22 @@ fn retyped(kinds: &[u8; 40], position: usize, kind: u8) -> [u8; 40]
     after
 }
 
-// Writes the ACK to a response that ends the exchange, with the index of the records that it leaves; where there is room
-// for it the exchange has ended.
+// Writes the ACK to a response that ends the exchange, with the index of the records that it leaves: it is counted among
+// the types after it, since those records are not there yet. Where there is room for the ACK the exchange has ended.
 fn settled(
     seen: Seen,
     kinds: &[u8; 40],
-    marks: &[u8; 40],
     macs: &[u64; 40],
     position: usize,
     found: Found,
     out: &mut [u8],
 ) -> Change
-    ensures { λ r. ⌜ Decides seen (OfColumns (now (kinds .entry)) (now (marks .entry)) (now (macs .entry))) (λ c t. settled c t position found (length (now (out .entry)))) r (now (out .entry)) (now (out .exit)) ⌝ }
+    ensures { λ r. ⌜ Decides seen (OfMacs (now (kinds .entry)) (now (macs .entry))) (λ c t. settled c t position found (length (now (out .entry)))) r (now (out .entry)) (now (out .exit)) ⌝ }
 {
-    let mut after = outcome(seen, kinds, marks, macs, position, found);
+    let mut after = outcome(seen, kinds, macs, position, found);
     let types = retyped(kinds, after.outcome.joined, found.kind);
-    let setup = seen.setup;
-    match message::write_signed(setup, &types, position, 6, out) {
+    let index = board::index_of(&types, position);
+    match message::write_signed(seen.setup, position, index as u8, 6, out) {
         Writing::Written(n) => {
             let told = Outcome {
                 answer: Answer::Transmit,
@@ -288,21 +260,20 @@ fn replied(
     position: usize,
     seen: Seen,
     kinds: &[u8; 40],
-    marks: &[u8; 40],
     macs: &[u64; 40],
     payload: &[u8],
     out: &mut [u8],
 ) -> Change
-    ensures { λ r. ⌜ Decides seen (OfColumns (now (kinds .entry)) (now (marks .entry)) (now (macs .entry))) (λ c t. repliedAs reply position c t (now (payload .entry)) (length (now (out .entry)))) r (now (out .entry)) (now (out .exit)) ⌝ }
+    ensures { λ r. ⌜ Decides seen (OfMacs (now (kinds .entry)) (now (macs .entry))) (λ c t. repliedAs reply position c t (now (payload .entry)) (length (now (out .entry)))) r (now (out .entry)) (now (out .exit)) ⌝ }
 {
     let told = found_at(payload, mac_place(reply));
     match reply {
-        Reply::Discovered => answered(seen, kinds, marks, macs, told),
+        Reply::Discovered => answered(seen, kinds, macs, told),
         Reply::Present => present(seen, macs, position, told.mac),
         Reply::Refused(refusal) => change::refusing(refusal),
         _ => {
             let found = teller(reply, seen.state.found, told);
-            settled(seen, kinds, marks, macs, position, found, out)
+            settled(seen, kinds, macs, position, found, out)
         }
     }
 }
@@ -313,16 +284,15 @@ pub fn sought(
     position: usize,
     seen: Seen,
     kinds: &[u8; 40],
-    marks: &[u8; 40],
     macs: &[u64; 40],
     header: Header,
     payload: &[u8],
     out: &mut [u8],
 ) -> Change
-    ensures { λ r. ⌜ Decides seen (OfColumns (now (kinds .entry)) (now (marks .entry)) (now (macs .entry))) (λ c t. soughtIn part position c t header (now (payload .entry)) (length (now (out .entry)))) r (now (out .entry)) (now (out .exit)) ⌝ }
+    ensures { λ r. ⌜ Decides seen (OfMacs (now (kinds .entry)) (now (macs .entry))) (λ c t. soughtIn part position c t header (now (payload .entry)) (length (now (out .entry)))) r (now (out .entry)) (now (out .exit)) ⌝ }
 {
     let reply = reply_in(part, position, seen, header, payload);
-    replied(reply, position, seen, kinds, marks, macs, payload, out)
+    replied(reply, position, seen, kinds, macs, payload, out)
 }
 
 // Quiet in the exchange: where nobody answered at the address at stake it is free, and is to be assigned; else the

@@ -23,7 +23,7 @@ one-answers k t f m p q lp lq ep eq = go (ℕ-discrete p q)
   where
     go : Dec (p ≡ q) → p ≡ q
     go (yes e) = e
-    go (no ne) = absurd (f .apart p q lp lq ne (ep ∙ sym eq))
+    go (no ne) = absurd (f .boards .apart p q lp lq ne (ep ∙ sym eq))
 
 module _ (s : Setup) (f : FitSetup s) where
   pub address-rises : (p q : ℕ) → Position (s .k) p → Position (s .k) q → p < q → address s p < address s q
@@ -47,11 +47,11 @@ module _ (s : Setup) (f : FitSetup s) where
   module _ (t : List Node) (g : FitTable (s .k) t) where
     -- no two listed boards share an address
     pub listed-apart : (p q : ℕ) → Listed t p → Listed t q → (p ≡ q → ⊥) → address s p ≡ address s q → ⊥
-    listed-apart p q lp lq = addresses-apart p q (g .within p lp) (g .within q lq)
+    listed-apart p q lp lq = addresses-apart p q (g .boards .within p lp) (g .boards .within q lq)
 
     -- the address of a free position is the address of no listed record
     pub free-apart : (p q : ℕ) → Position (s .k) p → at t p .kind ≡ 0 → Listed t q → address s p ≡ address s q → ⊥
-    free-apart p q a free l = addresses-apart p q a (g .within q l) (λ e. l (rw (← e) free))
+    free-apart p q a free l = addresses-apart p q a (g .boards .within q l) (λ e. l (rw (← e) free))
 
     -- "the address taken for a newcomer is in no listed record, since the pool rises strictly" (02, C-23, which retired number 17, AddressClash).
     -- A newcomer takes the lowest free position; where none is free that is 0, whose address is nobody's.
@@ -59,5 +59,5 @@ module _ (s : Setup) (f : FitSetup s) where
     newcomer-apart q l e = go (ℕ-discrete (lowestOf t Free (s .k)) 0)
       where
         go : Dec (lowestOf t Free (s .k) ≡ 0) → ⊥
-        go (yes none) = omega (arith, address-from q (g .within q l), address-zero s (lowestOf t Free (s .k)) (omega arith), e)
+        go (yes none) = omega (arith, address-from q (g .boards .within q l), address-zero s (lowestOf t Free (s .k)) (omega arith), e)
         go (no some) = free-apart (lowestOf t Free (s .k)) q (free-found t (s .k) some .place) (free-found t (s .k) some .free) l e

@@ -1,5 +1,6 @@
 pub mod Apart
 pub mod Lower
+pub mod Indexes
 pub mod Tables
 pub mod Pools
 pub mod Addresses

@@ -3,14 +3,14 @@ use Prim.Native.Nat.{ℕ, zero, suc, _+_, _-_, _≤_, _<_, _^_}
 use native.Mathlib.Omega.{arith}
 use native.Mathlib.Numerals.{add-one}
 use native.Mathlib.Decide.{ℕ-discrete}
-use mathlib.Core.Path.{_≡_, refl}
-use mathlib.Core.Bool.{true, _&&_}
+use mathlib.Core.Path.{_≡_, refl, sym, ap, _∙_}
+use mathlib.Core.Bool.{Bool, true, false, _&&_, false≢true}
 use mathlib.Core.List.{List}
 use lib.Dec.{leb, ltb}
 use lib.ListN.{getD}
 use borrow.Author.Tests.{ltb-true, leb-true, lt-ltb, le-leb}
 use Rattle.ground.specs.Below.{upFrom, all}
-use Rattle.ground.proofs.Choices.{and-left, and-right, both}
+use Rattle.ground.proofs.Choices.{and-left, and-right, both, never, not-right}
 use Rattle.ground.proofs.Loops.{all-at, all-of}
 use Rattle.board.specs.Node.{isMac}
 use Rattle.setup.specs.declared.Setup.{Setup}
@@ -28,6 +28,30 @@ climbs a n h i (suc j) l m = go (λ k. climbs a n h i j k (omega arith)) (ℕ-di
     go : (i < j → getD a i 0 < getD a j 0) → Dec (i ≡ j) → getD a i 0 < getD a (suc j) 0
     go r (yes e) = rw e next
     go r (no ne) = omega (arith, r (omega arith), next)
+
+-- of numbers that rise the first is the least and the last the most, so that these two tell whether all are addresses
+module _ (k : ℕ) (a : List ℕ) (some : 0 < k) where
+  abbrev ends : Bool
+  ends = ltb 0 (getD a 0 0) && leb (getD a (k - 1) 0) 254
+
+  least : areRising a (k - 1) ≡ true → (i : ℕ) → i < k → getD a 0 0 ≤ getD a i 0
+  least h zero l = omega arith
+  least h (suc i) l = omega (arith, climbs a (k - 1) h 0 (suc i) (omega arith) (omega (arith, l)))
+
+  most : areRising a (k - 1) ≡ true → (i : ℕ) → i < k → Dec (i ≡ k - 1) → getD a i 0 ≤ getD a (k - 1) 0
+  most h i l (yes e) = rw e (omega arith)
+  most h i l (no ne) = omega (arith, climbs a (k - 1) h i (k - 1) (omega (arith, l, ne)) (omega arith))
+
+  all-addresses : areRising a (k - 1) ≡ true → (b : Bool) → ends ≡ b → b ≡ areAddresses a k
+  all-addresses h true e = sym (all-of _ k (λ i l. both _ _ (lt-ltb 0 (getD a i 0) (omega (arith, least h i l, ltb-true 0 (getD a 0 0) (and-left (ltb 0 (getD a 0 0)) (leb (getD a (k - 1) 0) 254) e)))) (le-leb (getD a i 0) 254 (omega (arith, most h i l (ℕ-discrete i (k - 1)), leb-true (getD a (k - 1) 0) 254 (and-right (ltb 0 (getD a 0 0)) (leb (getD a (k - 1) 0) 254) e))))))
+  all-addresses h false e = sym (never (areAddresses a k) (λ f. false≢true (sym e ∙ both _ _ (and-left (ltb 0 (getD a 0 0)) (leb (getD a 0 0) 254) (all-at _ k 0 f some)) (and-right (ltb 0 (getD a (k - 1) 0)) (leb (getD a (k - 1) 0) 254) (all-at _ k (k - 1) f (omega (arith, some)))))))
+
+  pub ends-tell : (ends && areRising a (k - 1)) ≡ (areAddresses a k && areRising a (k - 1))
+  ends-tell = go (areRising a (k - 1)) refl
+    where
+      go : (r : Bool) → areRising a (k - 1) ≡ r → (ends && r) ≡ (areAddresses a k && r)
+      go true h = ap (λ (b : Bool). b && true) (all-addresses h ends refl)
+      go false h = not-right ends false refl ∙ sym (not-right (areAddresses a k) false refl)
 
 pub pool-told : (k : ℕ) (a : List ℕ) → arePool k a ≡ true → Pool k a
 unfolding arePool

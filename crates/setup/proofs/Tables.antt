@@ -7,39 +7,45 @@ use mathlib.Core.Logic.{_⊎_, inl, inr}
 use mathlib.Core.Bool.{Bool, true, false, _&&_, _||_, not}
 use mathlib.Core.List.{List, map}
 use lib.Dec.{eqb, leb, ltb}
-use lib.ListN.{getD, length, length-map, List·getD-map}
-use borrow.Author.Tests.{ltb-true, ltb-false, leb-true, leb-false, eqb-true, eqb-false, not-true, not-false, lt-ltb, le-leb, eq-eqb, ne-eqb}
+use lib.ListN.{getD, length, length-map}
+use borrow.Author.Tests.{ltb-true, ltb-false, leb-true, eqb-true, eqb-false, not-true, not-false, lt-ltb, le-leb, eq-eqb, ne-eqb}
 use Rattle.ground.proofs.Choices.{and-left, and-right, both, or-left, or-right, either, not-yes}
 use Rattle.ground.specs.Below.{all}
-use Rattle.ground.proofs.Loops.{all-at, all-of, all-past}
+use Rattle.ground.proofs.Loops.{all-at, all-of, all-past, all-both}
 use Rattle.board.specs.declared.Node.{Node}
 use Rattle.board.specs.Node.{none, isBlank, isMac, isKind, inRange}
 use Rattle.board.specs.Table.{at, listedAt}
 use Rattle.board.specs.Wanted.{highestListed}
-use Rattle.board.specs.Columns.{macOf, macsOf}
+use Rattle.board.specs.Columns.{macOf, macsOf, kindsOf, storedIndex, storedIndexes, typed}
+use Rattle.board.proofs.Columns.{column-next}
+use Rattle.board.proofs.Index.{index-nobody}
 use Rattle.board.proofs.LowestWanted.{none-above}
-use Rattle.board.proofs.Positions.{at-position, at-zero, at-past}
-use Rattle.setup.specs.Fit.{recordFits, recordsFit, apartFrom, areApart, tableFits}
-use Rattle.setup.specs.Fitness.{Listed, InRanges, FitTable}
+use Rattle.board.proofs.Positions.{Outside, at-position, at-next, at-outside, position-case}
+use Rattle.setup.specs.Fit.{recordFits, recordsFit, apartFrom, areApart, numberedAt, areNumbered, boardFits, tableFits}
+use Rattle.setup.specs.Fitness.{Listed, InRanges, FitBoards, FitTable}
 use Rattle.setup.proofs.Lower.{apart-zero}
+use Rattle.setup.proofs.Indexes.{numbered-told, numbered-passes, numbered-types}
 use Rattle.setup.proofs.Pools.{mac-told, mac-passes}
 
 -- one record
 
-zeros : (k m s i o : ℕ) → k ≡ 0 → m ≡ 0 → s ≡ 0 → i ≡ 0 → o ≡ 0 → _≡_ {A = Node} (record { kind = k; mac = m; session = s; misses = i; owed = o }) none
-zeros k m s i o a b c d e = rw (a, b, c, d, e) refl
+zeros : (k m s i o x : ℕ) → k ≡ 0 → m ≡ 0 → s ≡ 0 → i ≡ 0 → o ≡ 0 → x ≡ 0 → _≡_ {A = Node} (record { kind = k; mac = m; session = s; misses = i; owed = o; index = x }) none
+zeros k m s i o x a b c d e f = rw (a, b, c, d, e, f) refl
 
-blank-told : (n : Node) → isBlank n ≡ true → n ≡ none
-blank-told n h = zeros (n .kind) (n .mac) (n .session) (n .misses) (n .owed) (eqb-true (n .kind) 0 (and-left _ _ h3)) (eqb-true (n .mac) 0 (and-right (eqb (n .kind) 0) _ h3)) (eqb-true (n .session) 0 (and-right (eqb (n .kind) 0 && eqb (n .mac) 0) _ h2)) (eqb-true (n .misses) 0 (and-right (eqb (n .kind) 0 && eqb (n .mac) 0 && eqb (n .session) 0) _ h1)) (eqb-true (n .owed) 0 (and-right (eqb (n .kind) 0 && eqb (n .mac) 0 && eqb (n .session) 0 && eqb (n .misses) 0) _ h))
+pub blank-told : (n : Node) → isBlank n ≡ true → n ≡ none
+blank-told n h = zeros (n .kind) (n .mac) (n .session) (n .misses) (n .owed) (n .index) (eqb-true (n .kind) 0 (and-left _ _ h4)) (eqb-true (n .mac) 0 (and-right (eqb (n .kind) 0) _ h4)) (eqb-true (n .session) 0 (and-right (eqb (n .kind) 0 && eqb (n .mac) 0) _ h3)) (eqb-true (n .misses) 0 (and-right (eqb (n .kind) 0 && eqb (n .mac) 0 && eqb (n .session) 0) _ h2)) (eqb-true (n .owed) 0 (and-right (eqb (n .kind) 0 && eqb (n .mac) 0 && eqb (n .session) 0 && eqb (n .misses) 0) _ h1)) (eqb-true (n .index) 0 (and-right (eqb (n .kind) 0 && eqb (n .mac) 0 && eqb (n .session) 0 && eqb (n .misses) 0 && eqb (n .owed) 0) _ h))
   where
-    h1 : (eqb (n .kind) 0 && eqb (n .mac) 0 && eqb (n .session) 0 && eqb (n .misses) 0) ≡ true
-    h1 = and-left _ (eqb (n .owed) 0) h
+    h1 : (eqb (n .kind) 0 && eqb (n .mac) 0 && eqb (n .session) 0 && eqb (n .misses) 0 && eqb (n .owed) 0) ≡ true
+    h1 = and-left _ (eqb (n .index) 0) h
 
-    h2 : (eqb (n .kind) 0 && eqb (n .mac) 0 && eqb (n .session) 0) ≡ true
-    h2 = and-left _ (eqb (n .misses) 0) h1
+    h2 : (eqb (n .kind) 0 && eqb (n .mac) 0 && eqb (n .session) 0 && eqb (n .misses) 0) ≡ true
+    h2 = and-left _ (eqb (n .owed) 0) h1
 
-    h3 : (eqb (n .kind) 0 && eqb (n .mac) 0) ≡ true
-    h3 = and-left _ (eqb (n .session) 0) h2
+    h3 : (eqb (n .kind) 0 && eqb (n .mac) 0 && eqb (n .session) 0) ≡ true
+    h3 = and-left _ (eqb (n .misses) 0) h2
+
+    h4 : (eqb (n .kind) 0 && eqb (n .mac) 0) ≡ true
+    h4 = and-left _ (eqb (n .session) 0) h3
 
 ranges-told : (n : Node) → inRange n ≡ true → InRanges n
 ranges-told n h =
@@ -82,28 +88,18 @@ free-told k i n h l = go (either (ltb i k && inRange n) (isBlank n) h)
 
 -- the records by position
 
-index : (t : List Node) (i : ℕ) → at t (i + 1) ≡ getD t i none
-index t i = at-position t (i + 1) (omega arith) ∙ ap (λ (n : ℕ). getD t n none) (let e : i + 1 - 1 ≡ i = omega arith in e)
-
 inside : (t : List Node) (p : ℕ) → length t ≡ 40 → Listed t p → (0 < p) × (p ≤ 40)
-inside t p e l = (above (ltb 0 p) refl, within (leb p 40) refl)
+inside t p e l = go (position-case 40 p)
   where
-    above : (b : Bool) → ltb 0 p ≡ b → 0 < p
-    above true h = ltb-true 0 p h
-    above false h = absurd (l (ap (λ (n : Node). n .kind) (at-zero t p (ltb-false 0 p h))))
-
-    within : (b : Bool) → leb p 40 ≡ b → p ≤ 40
-    within true h = leb-true p 40 h
-    within false h = absurd (l (ap (λ (n : Node). n .kind) (at-past t p 40 e (leb-false p 40 h))))
+    go : Outside 40 p ⊎ ((0 < p) × (p ≤ 40)) → (0 < p) × (p ≤ 40)
+    go (inl o) = absurd (l (ap (λ (n : Node). n .kind) (at-outside t p 40 e o)))
+    go (inr within) = within
 
 fit-at : (k : ℕ) (t : List Node) (p : ℕ) → recordsFit k t ≡ true → 0 < p → p ≤ 40 → recordFits k (p - 1) (at t p) ≡ true
 fit-at k t p h a b = rw (at-position t p a) (all-at (λ i. recordFits k i (getD t i none)) 40 (p - 1) h (omega arith))
 
-mac-at : (t : List Node) (i : ℕ) → getD (map macOf t) i 0 ≡ at t (i + 1) .mac
-mac-at t i = List·getD-map macOf t i none ∙ ap macOf (sym (index t i))
-
 mac-of : (t : List Node) (p : ℕ) → 0 < p → getD (map macOf t) (p - 1) 0 ≡ at t p .mac
-mac-of t p h = mac-at t (p - 1) ∙ ap (λ (n : ℕ). at t n .mac) (let e : p - 1 + 1 ≡ p = omega arith in e)
+mac-of t p h = column-next macOf t (p - 1) ∙ ap (λ (n : ℕ). at t n .mac) (let e : p - 1 + 1 ≡ p = omega arith in e)
 
 lower-apart : (macs : List ℕ) (i j : ℕ) → areApart macs ≡ true → j < i → i < length macs → 0 < getD macs i 0 → getD macs i 0 ≡ getD macs j 0 → ⊥
 unfolding areApart
@@ -117,29 +113,35 @@ pub table-told : (k : ℕ) (t : List Node) → length t ≡ 40 → tableFits k t
 unfolding tableFits
 table-told k t e h =
     record {
-      forty = e;
-      within = λ p l. record { from = inside t p e l .0; upTo = omega (arith, fits p l .0, inside t p e l .0) };
-      ranges = λ p l. fits p l .1;
-      apart = λ p q lp lq ne. different (ltb p q) p q refl lp lq ne;
-      blank = blanks;
+      boards =
+          record {
+            forty = e;
+            within = λ p l. record { from = inside t p e l .0; upTo = omega (arith, fits p l .0, inside t p e l .0) };
+            ranges = λ p l. fits p l .1;
+            apart = λ p q lp lq ne. different (ltb p q) p q refl lp lq ne;
+            blank = blanks;
+          };
+      numbered = numbered-told t e (and-right (areApart (map macOf t)) (areNumbered t) boards);
     }
   where
     records : recordsFit k t ≡ true
-    records = and-left (recordsFit k t) (areApart (map macOf t)) h
+    records = and-left (recordsFit k t) (areApart (map macOf t) && areNumbered t) h
+
+    boards : (areApart (map macOf t) && areNumbered t) ≡ true
+    boards = and-right (recordsFit k t) (areApart (map macOf t) && areNumbered t) h
 
     macs : areApart (map macOf t) ≡ true
-    macs = and-right (recordsFit k t) (areApart (map macOf t)) h
+    macs = and-left (areApart (map macOf t)) (areNumbered t) boards
 
     fits : (p : ℕ) → Listed t p → (p - 1 < k) × InRanges (at t p)
     fits p l = listed-told k (p - 1) (at t p) (fit-at k t p records (inside t p e l .0) (inside t p e l .1)) l
 
     blanks : (p : ℕ) → at t p .kind ≡ 0 → at t p ≡ none
-    blanks p l = go (ltb 0 p) refl (leb p 40) refl
+    blanks p l = go (position-case 40 p)
       where
-        go : (a : Bool) → ltb 0 p ≡ a → (b : Bool) → leb p 40 ≡ b → at t p ≡ none
-        go false a b c = at-zero t p (ltb-false 0 p a)
-        go true a false c = at-past t p 40 e (leb-false p 40 c)
-        go true a true c = free-told k (p - 1) (at t p) (fit-at k t p records (ltb-true 0 p a) (leb-true p 40 c)) l
+        go : Outside 40 p ⊎ ((0 < p) × (p ≤ 40)) → at t p ≡ none
+        go (inl o) = at-outside t p 40 e o
+        go (inr (a, b)) = free-told k (p - 1) (at t p) (fit-at k t p records a b) l
 
     lower : (p q : ℕ) → Listed t p → Listed t q → p < q → at t q .mac ≡ at t p .mac → ⊥
     lower p q lp lq l s = lower-apart (map macOf t) (q - 1) (p - 1) macs (omega (arith, inside t p e lp .0)) (rw length-map (omega (arith, inside t q e lq .0, inside t q e lq .1))) (rw (mac-of t q (inside t q e lq .0)) (fits q lq .1 .mac .from)) (mac-of t q (inside t q e lq .0) ∙ s ∙ sym (mac-of t p (inside t p e lp .0)))
@@ -148,15 +150,18 @@ table-told k t e h =
     different true p q b lp lq ne s = lower p q lp lq (ltb-true p q b) (sym s)
     different false p q b lp lq ne s = lower q p lq lp (omega (arith, ltb-false p q b)) s
 
--- of records that are fit by themselves, those that are not listed have no MAC, so that MACs are to be compared up to the highest listed position
-pub apart-listed : (k : ℕ) (t : List Node) → length t ≡ 40 → recordsFit k t ≡ true → all (apartFrom (macsOf t)) (min (highestListed t) 40) ≡ areApart (macsOf t)
-unfolding areApart
-apart-listed k t e h = rw (length-map t macOf ∙ e) (all-past (apartFrom (macsOf t)) (min (highestListed t) 40) 40 (omega arith) (λ i a b. sym (apart-zero (macsOf t) i (mac-at t i ∙ ap macOf (free i b (none-above t (i + 1) (omega (arith, a, b)) (omega arith)))))))
+-- of records that are fit by themselves, those that are not listed have no MAC and no index, so that boards are to be looked at up to the highest listed position
+pub boards-listed : (k : ℕ) (t : List Node) → length t ≡ 40 → recordsFit k t ≡ true → all (boardFits (kindsOf t) (storedIndexes t) (macsOf t)) (min (highestListed t) 40) ≡ (areApart (macsOf t) && areNumbered t)
+unfolding areApart areNumbered
+boards-listed k t e h = rw (length-map t macOf ∙ e) (all-past (boardFits (kindsOf t) (storedIndexes t) (macsOf t)) (min (highestListed t) 40) 40 (omega arith) (λ i a b. passes i (free i b (none-above t (i + 1) (omega (arith, a, b)) (omega arith)))) ∙ all-both (apartFrom (macsOf t)) (numberedAt (storedIndexes t) (typed (kindsOf t))) 40 ∙ ap (λ (f : ℕ → Bool). all (apartFrom (macsOf t)) 40 && all f 40) (numbered-types t e))
   where
-    free : (i : ℕ) → i < 40 → listedAt t (i + 1) ≡ false → at t (i + 1) ≡ none
-    free i b l = free-told k i (at t (i + 1)) (rw (index t i) (all-at (λ j. recordFits k j (getD t j none)) 40 i h b)) (eqb-true (at t (i + 1) .kind) 0 (not-false (eqb (at t (i + 1) .kind) 0) l))
+    passes : (i : ℕ) → at t (i + 1) ≡ none → boardFits (kindsOf t) (storedIndexes t) (macsOf t) i ≡ true
+    passes i z = both _ _ (sym (apart-zero (macsOf t) i (column-next macOf t i ∙ ap macOf z))) (ap (λ (f : ℕ → Bool). f i) (numbered-types t e) ∙ eq-eqb _ _ (column-next storedIndex t i ∙ ap storedIndex z ∙ index-nobody t (i + 1) (ap (λ (n : Node). n .kind) z)))
 
-record-passes : (k : ℕ) (t : List Node) → FitTable k t → (i : ℕ) → recordFits k i (at t (i + 1)) ≡ true
+    free : (i : ℕ) → i < 40 → listedAt t (i + 1) ≡ false → at t (i + 1) ≡ none
+    free i b l = free-told k i (at t (i + 1)) (rw (at-next t i) (all-at (λ j. recordFits k j (getD t j none)) 40 i h b)) (eqb-true (at t (i + 1) .kind) 0 (not-false (eqb (at t (i + 1) .kind) 0) l))
+
+record-passes : (k : ℕ) (t : List Node) → FitBoards k t → (i : ℕ) → recordFits k i (at t (i + 1)) ≡ true
 unfolding recordFits
 record-passes k t f i = go (ℕ-discrete (at t (i + 1) .kind) 0)
   where
@@ -173,7 +178,7 @@ pair-passes m n h = go (ℕ-discrete m 0)
 
 pub table-passes : (k : ℕ) (t : List Node) → FitTable k t → tableFits k t ≡ true
 unfolding tableFits areApart
-table-passes k t f = both _ _ (all-of _ 40 (λ i l. rw (← index t i) (record-passes k t f i))) (all-of _ (length (map macOf t)) (λ i l. all-of _ i (λ j m. pair-passes (getD (map macOf t) i 0) (getD (map macOf t) j 0) (λ ne e. f .apart (i + 1) (j + 1) (listed i ne) (listed j (λ z. ne (e ∙ z))) (λ q. omega arith) (sym (mac-at t i) ∙ e ∙ mac-at t j)))))
+table-passes k t f = both _ _ (all-of _ 40 (λ i l. rw (← at-next t i) (record-passes k t (f .boards) i))) (both _ _ (all-of _ (length (map macOf t)) (λ i l. all-of _ i (λ j m. pair-passes (getD (map macOf t) i 0) (getD (map macOf t) j 0) (λ ne e. f .boards .apart (i + 1) (j + 1) (listed i ne) (listed j (λ z. ne (e ∙ z))) (λ q. omega arith) (sym (column-next macOf t i) ∙ e ∙ column-next macOf t j))))) (numbered-passes t (f .numbered)))
   where
     listed : (i : ℕ) → (getD (map macOf t) i 0 ≡ 0 → ⊥) → Listed t (i + 1)
-    listed i ne z = ne (mac-at t i ∙ ap macOf (f .blank (i + 1) z))
+    listed i ne z = ne (column-next macOf t i ∙ ap macOf (f .boards .blank (i + 1) z))

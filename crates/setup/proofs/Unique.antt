@@ -16,7 +16,7 @@ use Rattle.setup.proofs.address_at.Reads as address-at
 use Rattle.setup.proofs.setup_fits.Reads as setup-fits
 use Rattle.setup.proofs.judge_setup.Reads as judge-setup
 use Rattle.setup.proofs.record_fits.Reads as record-fits
-use Rattle.setup.proofs.are_apart.Reads as are-apart
+use Rattle.setup.proofs.boards_fit.Reads as boards-fit
 
 pub unique-is-mac : (a s t : _) (r q : Bool) → is-mac.Post tt a r s → is-mac.Post tt a q t → r ≡ q
 unique-is-mac a s t r q p p′ = p ∙ sym p′
@@ -36,8 +36,8 @@ unique-setup-fits a s t r q p p′ = p ∙ sym p′
 pub unique-record-fits : (a s t : _) (r q : Bool) → record-fits.Post tt a r s → record-fits.Post tt a q t → r ≡ q
 unique-record-fits a s t r q p p′ = p ∙ sym p′
 
-pub unique-are-apart : (κs : Lft × Unit {0}) (a s t : _) (r q : Bool) → are-apart.Post κs a r s → are-apart.Post κs a q t → r ≡ q
-unique-are-apart κs a s t r q p p′ = p ∙ sym p′
+pub unique-boards-fit : (κs : Lft × (Lft × (Lft × Unit {0}))) (a s t : _) (r q : Bool) → boards-fit.Post κs a r s → boards-fit.Post κs a q t → r ≡ q
+unique-boards-fit κs a s t r q p p′ = p ∙ sym p′
 
 -- two judgements that say the same are the same
 pub same-told : (r q : Judged) → toldOf r ≡ toldOf q → r ≡ q

@@ -1,13 +1,15 @@
 -- The part of "fit" that speaks of the table (01, "Fit"). Index i, from 0, is position i + 1.
-use Prim.Native.Nat.{ℕ}
+use Prim.Native.Nat.{ℕ, _+_}
 use mathlib.Core.Bool.{Bool, _&&_, _||_, not}
 use mathlib.Core.List.{List}
-use lib.ListN.{getD, length}
+use lib.ListN.{getD, set, length}
 use lib.Dec.{eqb, ltb}
+use Rattle.ground.specs.Choose.{choose}
 use Rattle.ground.specs.Below.{all}
 use Rattle.board.specs.declared.Node.{Node}
 use Rattle.board.specs.Node.{none, isBlank, inRange}
-use Rattle.board.specs.Columns.{macsOf}
+use Rattle.board.specs.Wanted.{indexOf}
+use Rattle.board.specs.Columns.{macsOf, storedIndexes, typed}
 
 -- a record is listed within 1 to k and its ranges, or all zeros (01, "listed records within 1 to k and the ranges, others all zeros")
 unfoldable pub recordFits : ℕ → ℕ → Node → Bool
@@ -25,6 +27,22 @@ apartFrom macs i = all (λ j. eqb (getD macs i 0) 0 || not (eqb (getD macs i 0) 
 unfoldable pub areApart : List ℕ → Bool
 areApart macs = all (apartFrom macs) (length macs)
 
--- forty records, listed ones within 1 to k and the ranges, with different MACs, others all zeros (01, "Fit")
+-- the i-th of these indexes is the one that is counted in the table (02, C-13)
+abbrev pub numberedAt : List ℕ → List Node → ℕ → Bool
+numberedAt indexes t i = eqb (getD indexes i 0) (indexOf t (i + 1))
+
+-- every stored index is the counted one (02, C-13: "A lent table with another index is not fit")
+unfoldable pub areNumbered : List Node → Bool
+areNumbered t = all (numberedAt (storedIndexes t) t) 40
+
+-- the i-th board has a MAC of its own, and its index is the counted one, over columns of types, indexes and MACs (house)
+abbrev pub boardFits : List ℕ → List ℕ → List ℕ → ℕ → Bool
+boardFits kinds indexes macs i = apartFrom macs i && numberedAt indexes (typed kinds) i
+
+-- a tally of types with one more of this type; 0 is nobody's (house)
+abbrev pub talliedOne : List ℕ → ℕ → List ℕ
+talliedOne tally kind = choose (eqb kind 0) tally (set tally kind (getD tally kind 0 + 1))
+
+-- forty records, listed ones within 1 to k and the ranges, with different MACs, others all zeros (01, "Fit"), and their indexes as they are counted (02, C-13)
 unfoldable pub tableFits : ℕ → List Node → Bool
-tableFits k t = recordsFit k t && areApart (macsOf t)
+tableFits k t = recordsFit k t && (areApart (macsOf t) && areNumbered t)

@@ -6,6 +6,7 @@ use lib.ListN.{getD, length}
 use Rattle.board.specs.declared.Node.{Node}
 use Rattle.board.specs.Node.{none}
 use Rattle.board.specs.Table.{at}
+use Rattle.board.specs.Index.{Numbered}
 use Rattle.setup.specs.declared.Setup.{Setup}
 
 -- the first k of a list are a pool (01, "a pool of k addresses, k from 1 to 40, strictly rising, each 1 to 254")
@@ -43,10 +44,15 @@ pub record InRanges (n : Node) : Type 0 where
   pub misses : n .misses ≤ 2
   pub owed : n .owed ≤ 1
 
--- the table is fit among k positions (01, "Fit": "forty records, listed records within 1 to k and the ranges, with different MACs, others all zeros")
-pub record FitTable (k : ℕ) (t : List Node) : Type 0 where
+-- the boards of the table are fit among k positions (01, "Fit": "forty records, listed records within 1 to k and the ranges, with different MACs, others all zeros")
+pub record FitBoards (k : ℕ) (t : List Node) : Type 0 where
   pub forty : length t ≡ 40
   pub within : (p : ℕ) → Listed t p → Position k p
   pub ranges : (p : ℕ) → Listed t p → InRanges (at t p)
   pub apart : (p q : ℕ) → Listed t p → Listed t q → (p ≡ q → ⊥) → at t p .mac ≡ at t q .mac → ⊥
   pub blank : (p : ℕ) → at t p .kind ≡ 0 → at t p ≡ none
+
+-- and the table is fit where their stored indexes are the counted ones too (02, C-13: "A lent table with another index is not fit")
+pub record FitTable (k : ℕ) (t : List Node) : Type 0 where
+  pub boards : FitBoards k t
+  pub numbered : Numbered t

@@ -5,12 +5,14 @@ use refusal::Refusal;
 ghost use mathlib.Core.Path.{_≡_};
 ghost use mathlib.Core.List.{[]};
 ghost use Prim.Native.Nat.{_+_, _≤_, _<_, min};
-ghost use lib.ListN.{length};
+ghost use lib.ListN.{length, getD};
+ghost use lib.Dec.{eqb};
 ghost use Rattle.refusal.specs.Refusal.{ruled, refuses, gives};
 ghost use Rattle.board.specs.Node.{isMac, isBlank, inRange};
-ghost use Rattle.setup.specs.Setup.{areAddresses, areRising, arePool, isPool, shippedPool, address, setupFits, setupRules, toldOf};
-ghost use Rattle.setup.specs.Fit.{recordFits, apartFrom};
+ghost use Rattle.setup.specs.Setup.{areRising, arePool, isPool, shippedPool, address, setupFits, setupRules, toldOf};
+ghost use Rattle.setup.specs.Fit.{recordFits, apartFrom, boardFits, talliedOne};
 ghost use Rattle.ground.specs.Below.{all};
+ghost use Rattle.ground.specs.Choose.{choose};
 
 // The first k of the pool are in use. `internal` is the type of the virtual internal subordinate.
 #[repr(C)]
@@ -29,20 +31,6 @@ pub enum Judged {
     Refused(Refusal),
 }
 
-// The first n are addresses, 1 to 254 each.
-fn are_addresses(addresses: &[u8], n: usize) -> bool
-    requires { ⌜ n ≤ length (now addresses) ⌝ }
-    ensures { λ r. ⌜ r ≡ areAddresses (now (addresses .entry)) n ⌝ }
-{
-    let mut ok = true;
-    let mut i: usize = 0;
-    while i < n {
-        ok = ok & ((0 < addresses[i]) & (addresses[i] <= 254));
-        i += 1;
-    }
-    ok
-}
-
 // Each of the first n is below the next.
 fn are_rising(addresses: &[u8], n: usize) -> bool
     requires { ⌜ n + 1 ≤ length (now addresses) ⌝ }
@@ -58,14 +46,15 @@ fn are_rising(addresses: &[u8], n: usize) -> bool
     ok
 }
 
-// The first k are a pool.
+// The first k are a pool. Where each is below the next, the first and the last tell whether all are addresses, 1 to 254.
 fn are_pool(addresses: &[u8], k: usize) -> bool
     requires { ⌜ k ≤ length (now addresses) ⌝ }
     ensures { λ r. ⌜ r ≡ arePool k (now (addresses .entry)) ⌝ }
 {
     if 0 < k {
         if k <= 40 {
-            are_addresses(addresses, k) & are_rising(addresses, k - 1)
+            let last = k - 1;
+            (0 < addresses[0]) & (addresses[last] <= 254) & are_rising(addresses, last)
         } else {
             false
         }
@@ -195,7 +184,12 @@ fn in_range(node: Node) -> bool
 fn is_blank(node: Node) -> bool
     ensures { λ r. ⌜ r ≡ isBlank node ⌝ }
 {
-    (node.kind == 0) & (node.mac == 0) & (node.session == 0) & (node.misses == 0) & (node.owed == 0)
+    (node.kind == 0)
+        & (node.mac == 0)
+        & (node.session == 0)
+        & (node.misses == 0)
+        & (node.owed == 0)
+        & (node.index == 0)
 }
 
 // The record at index i, that is at position i + 1, is fit among k positions.
@@ -209,6 +203,16 @@ pub fn record_fits(k: usize, i: usize, node: Node) -> bool
     }
 }
 
+// With how many of those before it a MAC is compared: 0 is nobody's, and is compared with none.
+fn compared(mac: u64, i: usize) -> usize
+    ensures { λ r. ⌜ r ≡ choose (eqb mac 0) 0 i ⌝ }
+{
+    if mac == 0 {
+        return 0;
+    }
+    i
+}
+
 // The MAC at index i is 0, or none of those before it. All of them are looked at, with no way out of the loop: the compiler
 // then compares several at once. In it the MAC is not 0; the test stands as the definition has it.
 fn apart_from_lower(macs: &[u64; 40], i: usize) -> bool
@@ -216,27 +220,42 @@ fn apart_from_lower(macs: &[u64; 40], i: usize) -> bool
     ensures { λ r. ⌜ r ≡ apartFrom (now (macs .entry)) i ⌝ }
 {
     let mac = macs[i];
-    if mac == 0 {
-        return true;
-    }
+    let n = compared(mac, i);
     let mut apart = true;
     let mut j: usize = 0;
-    while j < i {
+    while j < n {
         apart = apart & ((mac == 0) | (mac != macs[j]));
         j += 1;
     }
     apart
 }
 
-// Of the first of forty MACs, no MAC but 0 stands twice: each pair is compared once.
-pub fn are_apart(macs: &[u64; 40], count: usize) -> bool
-    ensures { λ r. ⌜ r ≡ all (apartFrom (now (macs .entry))) (min count 40) ⌝ }
+// How many of a type were tallied before, and one more of it now; 0 is nobody's type. That a type is a byte is told to the
+// caller, who has a list of them.
+fn tally_one(tally: &mut [u8; 256], kind: u8) -> u8
+    requires { ⌜ getD (now tally) kind 0 < 255 ⌝ }
+    ensures { λ r. ⌜ (r ≡ getD (now (tally .entry)) kind 0) × (now (tally .exit) ≡ talliedOne (now (tally .entry)) kind) × (kind < 256) ⌝ }
+{
+    let k = kind as usize;
+    let before = tally[k];
+    if kind != 0 {
+        tally[k] = before + 1;
+    }
+    before
+}
+
+// Of the first of forty boards, no MAC but 0 stands twice, and each index is the counted one: each pair of MACs is compared
+// once, and in the same pass the boards of each type are counted.
+pub fn boards_fit(kinds: &[u8; 40], indexes: &[u8; 40], macs: &[u64; 40], count: usize) -> bool
+    ensures { λ r. ⌜ r ≡ all (boardFits (now (kinds .entry)) (now (indexes .entry)) (now (macs .entry))) (min count 40) ⌝ }
 {
     let n = ground::least(count, 40);
+    let mut tally = [0u8; 256];
     let mut ok = true;
     let mut i: usize = 0;
     while i < n {
-        ok = ok & apart_from_lower(macs, i);
+        let before = tally_one(&mut tally, kinds[i]);
+        ok = ok & (apart_from_lower(macs, i) & (indexes[i] == before));
         i += 1;
     }
     ok

@@ -12,7 +12,7 @@ use Rattle.refusal.proofs.Rules.{Passed}
 use Rattle.board.specs.declared.Node.{Node}
 use Rattle.board.specs.Node.{isKind}
 use Rattle.board.specs.Table.{put}
-use Rattle.board.specs.Change.{joinedNode, oweAll}
+use Rattle.board.specs.Change.{joinedNode, relisted}
 use Rattle.setup.specs.Fitness.{Position}
 use Rattle.coordinator.specs.declared.Coordinator.{Coordinator}
 use Rattle.coordinator.specs.declared.Found.{Found}
@@ -26,7 +26,7 @@ use Rattle.steps.specs.Join.{isResting, chosen, joinRules, joinedAs, joinOf}
 use Rattle.steps.proofs.Chosen.{chosen-within}
 use Rattle.series.specs.Observed.{Seen}
 use Rattle.lasting.proofs.Join.{idle}
-use Rattle.staying.proofs.Agreement.{Waits, Agrees, Told, Changes, put-changes, owe-changes, listed-tells, seen-tells, rules-tell}
+use Rattle.staying.proofs.Agreement.{Waits, Agrees, Told, Changes, put-changes, relist-changes, listed-tells, seen-tells, rules-tell}
 
 -- at rest nothing is asked of the wait
 pub rests-waits : (s : Seen) (f : Found) (p : Phase) → isResting p ≡ true → Waits s f p
@@ -39,8 +39,8 @@ rests-waits s f Unknown e = tt
 
 module _ (c : Coordinator) (t : List Node) (h : fits c t ≡ true) (kind mac session : ℕ) (one : isKind kind ≡ true) (found : chosen t (c .setup .k) mac ≡ 0 → ⊥) where
   -- whether it was listed or not, the board is listed then, has no misses, and is who the join says
-  pub joined-changes : Changes t (oweAll (put t (chosen t (c .setup .k) mac) (joinedNode kind mac session))) (chosen t (c .setup .k) mac) true 0 (record { kind = kind; mac = mac })
-  joined-changes = owe-changes (put-changes t (chosen t (c .setup .k) mac) (joinedNode kind mac session) (place .from) inside-table (and-left (not (eqb kind 0)) _ one) refl)
+  pub joined-changes : Changes t (relisted (put t (chosen t (c .setup .k) mac) (joinedNode kind mac session))) (chosen t (c .setup .k) mac) true 0 (record { kind = kind; mac = mac })
+  joined-changes = relist-changes (put-changes t (chosen t (c .setup .k) mac) (joinedNode kind mac session) (place .from) inside-table (and-left (not (eqb kind 0)) _ one) refl)
     where
       place : Position (c .setup .k) (chosen t (c .setup .k) mac)
       place = chosen-within t (c .setup .k) mac found

@@ -14,7 +14,7 @@ use Rattle.board.specs.declared.Node.{Node}
 use Rattle.board.specs.Node.{none}
 use Rattle.board.specs.Table.{at, put, listedAt}
 use Rattle.board.specs.Wanted.{someListed}
-use Rattle.board.specs.Change.{missed, oweAll}
+use Rattle.board.specs.Change.{missed, relisted}
 use Rattle.coordinator.specs.declared.Found.{Found}
 use Rattle.coordinator.specs.declared.Part.{Part}
 use Rattle.coordinator.specs.declared.Part.the-variants.{Search, IdentifyDue, Identify, Present, AssignDue, Assign}
@@ -32,7 +32,7 @@ use Rattle.steps.specs.Seek.{quietInSeek}
 use Rattle.steps.specs.Quiet.{droppedAt, missedAt, quietValue, quietRules, quietIn, quietOf}
 use Rattle.series.specs.Series.{isSeek}
 use Rattle.series.specs.Observed.{recorded, Seen, changed, sawQuiet}
-use Rattle.staying.proofs.Agreement.{InPart, Waits, Agrees, Gone, Thrice, Told, still-tells, changed-here, changed-other, changed-none, Changes, put-changes, inside, owe-changes, agrees-changed, listed-tells, seen-tells, refused-tells, rules-tell}
+use Rattle.staying.proofs.Agreement.{InPart, Waits, Agrees, Gone, Thrice, Told, still-tells, changed-here, changed-other, changed-none, Changes, put-changes, inside, relist-changes, agrees-changed, listed-tells, seen-tells, refused-tells, rules-tell}
 
 -- what quiet shows: the run is one more where the board was not heard, and a board that is dropped is listed no more
 module _ (s : Seen) (a : After) (p : ℕ) where
@@ -74,17 +74,17 @@ module _ (s : Seen) (c : Coordinator) (t : List Node) (h : fits c t ≡ true) (g
     dropped-tells : ltb (at t b .misses) 2 ≡ false → Told s t Quiet [] (droppedAt c t b)
     dropped-tells third = seen-tells Quiet [] refl (record { agrees = agrees-changed g change (λ e. absurd (false≢true e)) (λ e. absurd (false≢true e)) (record { listed = λ p. dropped-listed s (droppedAt c t b) p (board .from); run = run-more; who = changed-none (s .who) b (s .who b) refl }) (at-rest _ _ c (someListed (put t b none))); only = λ p. only p (ℕ-discrete p b); then = λ p. then p (ℕ-discrete p b) })
       where
-        change : Changes t (oweAll (put t b none)) b false 0 (recorded none)
-        change = owe-changes (put-changes t b none (board .from) (inside c t h board) refl refl)
+        change : Changes t (relisted (put t b none)) b false 0 (recorded none)
+        change = relist-changes (put-changes t b none (board .from) (inside c t h board) refl refl)
 
         two : s .run b ≡ 2
-        two = omega (arith, g .run b (board .listed), ltb-false (at t b .misses) 2 third, fit-told c t h .table .ranges b (listed-told t b (board .listed)) .misses)
+        two = omega (arith, g .run b (board .listed), ltb-false (at t b .misses) 2 third, fit-told c t h .table .boards .ranges b (listed-told t b (board .listed)) .misses)
 
-        only : (p : ℕ) → Dec (p ≡ b) → Gone t (oweAll (put t b none)) p → Thrice s (sawQuiet (droppedAt c t b) s) p
+        only : (p : ℕ) → Dec (p ≡ b) → Gone t (relisted (put t b none)) p → Thrice s (sawQuiet (droppedAt c t b) s) p
         only p (yes e) (l, n) = (ap (s .run) e ∙ two, run-more p ∙ changed-here (s .run) b (s .run b + 1) p e ∙ ap (λ (n : ℕ). n + 1) two)
         only p (no ne) (l, n) = absurd (false≢true (sym n ∙ change .listed p ∙ changed-other (listedAt t) b false p ne ∙ l))
 
-        then : (p : ℕ) → Dec (p ≡ b) → Thrice s (sawQuiet (droppedAt c t b) s) p → Gone t (oweAll (put t b none)) p
+        then : (p : ℕ) → Dec (p ≡ b) → Thrice s (sawQuiet (droppedAt c t b) s) p → Gone t (relisted (put t b none)) p
         then p (yes e) (m, n) = (ap (listedAt t) e ∙ board .listed, change .listed p ∙ changed-here (listedAt t) b false p e)
         then p (no ne) (m, n) = absurd (let z : ⊥ = omega (arith, run-more p ∙ changed-other (s .run) b (s .run b + 1) p ne) in z)
 

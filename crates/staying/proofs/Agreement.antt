@@ -3,7 +3,7 @@ use Prim.Native.Nat.{ℕ, _≤_}
 use native.Mathlib.Omega.{arith}
 use native.Mathlib.Decide.{ℕ-discrete}
 use mathlib.Core.Path.{_≡_, refl, sym, ap, subst, _∙_}
-use mathlib.Core.Bool.{Bool, true, false, false≢true}
+use mathlib.Core.Bool.{Bool, true, false, not, false≢true}
 use mathlib.Core.List.{List}
 use lib.ListN.{length}
 use lib.Dec.{eqb}
@@ -17,8 +17,9 @@ use Rattle.refusal.proofs.Rules.{Passed, each, by-rules}
 use Rattle.board.specs.declared.Node.{Node}
 use Rattle.board.specs.Node.{isListed}
 use Rattle.board.specs.Table.{at, put, listedAt}
-use Rattle.board.specs.Change.{oweAll}
-use Rattle.board.proofs.Changes.{at-put, at-put-other, at-owe-all, owe-all-keeps, owe-all-listed}
+use Rattle.board.specs.Change.{oweAll, relisted}
+use Rattle.board.proofs.Changes.{SameBoard, at-put, at-put-other, owe-all-keeps}
+use Rattle.board.proofs.Numbered.{relisted-keeps}
 use Rattle.coordinator.specs.declared.Found.{Found}
 use Rattle.coordinator.specs.declared.Part.{Part}
 use Rattle.coordinator.specs.declared.Part.the-variants.{Search, IdentifyDue, Identify, Present, AssignDue, Assign}
@@ -118,9 +119,16 @@ put-changes t b n from upTo el em = record { listed = each-is isListed el; misse
     each-is : {A : Type 0} (f : Node → A) {v : A} → f n ≡ v → (p : ℕ) → f (at (put t b n) p) ≡ changed (λ q. f (at t q)) b v p
     each-is f {v} e p = changed-case (λ q. f (at t q)) b v p (λ x. f (at (put t b n) p) ≡ x) (λ here. ap f (ap (at (put t b n)) here ∙ at-put t b n from upTo) ∙ e) (λ ne. ap f (at-put-other t b p n ne))
 
--- owing the list to all is no such change
+-- a change that leaves each board where it was is none such
+alike-changes : {t u : List Node} (v : List Node) {b : ℕ} {l : Bool} {m : ℕ} {n : Who} → ((p : ℕ) → SameBoard (at v p) (at u p)) → Changes t u b l m n → Changes t v b l m n
+alike-changes v same g = record { listed = λ p. ap (λ (k : ℕ). not (eqb k 0)) (same p .kind) ∙ g .listed p; misses = λ p. same p .misses ∙ g .misses p; who = λ p. (λ i. record { kind = same p .kind i; mac = same p .mac i }) ∙ g .who p }
+
+-- as owing the list to all does, and counting every index anew with it
 pub owe-changes : {t u : List Node} {b : ℕ} {l : Bool} {m : ℕ} {n : Who} → Changes t u b l m n → Changes t (oweAll u) b l m n
-owe-changes {u = u} g = record { listed = λ p. owe-all-listed u p ∙ g .listed p; misses = λ p. owe-all-keeps u p .misses ∙ g .misses p; who = λ p. ap recorded (at-owe-all u p) ∙ g .who p }
+owe-changes {u = u} = alike-changes (oweAll u) (owe-all-keeps u)
+
+pub relist-changes : {t u : List Node} {b : ℕ} {l : Bool} {m : ℕ} {n : Who} → Changes t u b l m n → Changes t (relisted u) b l m n
+relist-changes {u = u} = alike-changes (relisted u) (relisted-keeps u)
 
 -- a change that is seen as it is made: who is listed, and the run and who it is where the board stays listed
 pub record Sees (s s′ : Seen) (b : ℕ) (l : Bool) (v : ℕ) (n : Who) : Type 0 where

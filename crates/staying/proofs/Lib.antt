@@ -8,5 +8,8 @@ pub mod AfterQuiet
 pub mod AfterDiscover
 pub mod WhoStays
 pub mod Noted
+pub mod Carried
 pub mod Routed
+pub mod Acknowledged
+pub mod StoredIndex
 pub mod AsJoined

@@ -11,7 +11,7 @@ use Rattle.refusal.specs.declared.Refusal.{Refusal}
 use Rattle.refusal.proofs.Rules.{gave, each, by-rules}
 use Rattle.frame.specs.Frame.{fields, headerOf, lengthByte, readRules, reading}
 use Rattle.board.specs.declared.Node.{Node}
-use Rattle.board.specs.Wanted.{indexOf}
+use Rattle.board.specs.Table.{at}
 use Rattle.setup.specs.Setup.{address}
 use Rattle.setup.specs.Fitness.{FitSetup, Position}
 use Rattle.setup.proofs.Apart.{address-from, address-upTo}
@@ -62,7 +62,7 @@ ack-reaches c t position source bytes fit here ack =
       subnet = ap (λ (l : List ℕ). getD l 2 0) are;
     }
   where
-    are : fields (headerOf bytes) ++ lengthByte bytes ∷ [] ≡ source ∷ 255 ∷ c .setup .subnet ∷ 0 ∷ 0 ∷ indexOf t position ∷ 165 ∷ 0 ∷ 128 ∷ 17 ∷ []
+    are : fields (headerOf bytes) ++ lengthByte bytes ∷ [] ≡ source ∷ 255 ∷ c .setup .subnet ∷ 0 ∷ 0 ∷ at t position .index ∷ 165 ∷ 0 ∷ 128 ∷ 17 ∷ []
     are = values-are bytes _ (ack .reads)
 
     there : headerOf bytes .destination ≡ address (c .setup) position

@@ -19,22 +19,20 @@ fn deciding(
     node: Node,
     payload: &[u8],
     kinds: &[u8; 40],
-    marks: &[u8; 40],
+    indexes: &[u8; 40],
     macs: &[u64; 40],
     event: Event,
     received: &[u8],
     out: &mut [u8],
 ) -> Change
-    ensures { λ r. ⌜ Takes seen (Known node (now (payload .entry)) (now (kinds .entry)) (now (marks .entry)) (now (macs .entry))) (now (received .entry)) (λ c t. stepOf c t event (now (received .entry)) (length (now (out .entry)))) r (now (out .entry)) (now (out .exit)) ⌝ }
+    ensures { λ r. ⌜ Takes seen (Known node (now (payload .entry)) (now (kinds .entry)) (now (indexes .entry)) (now (macs .entry))) (now (received .entry)) (λ c t. stepOf c t event (now (received .entry)) (length (now (out .entry)))) r (now (out .entry)) (now (out .exit)) ⌝ }
 {
     match event {
-        Event::Join { kind, mac, session } => {
-            join::join(seen, kinds, marks, macs, kind, mac, session)
-        }
-        Event::Turn => turn::turn(seen, payload, kinds, marks, out),
-        Event::Frame => receive::receive(seen, node, kinds, marks, macs, received, out),
+        Event::Join { kind, mac, session } => { join::join(seen, kinds, macs, kind, mac, session) }
+        Event::Turn => turn::turn(seen, payload, kinds, indexes, out),
+        Event::Frame => receive::receive(seen, node, kinds, macs, received, out),
         Event::Quiet => quiet::quiet(seen, node, kinds),
-        Event::Discover => seek::discover(seen, kinds, marks, out),
+        Event::Discover => seek::discover(seen, kinds, out),
     }
 }
 
@@ -45,15 +43,15 @@ fn decide(
     node: Node,
     payload: &[u8],
     kinds: &[u8; 40],
-    marks: &[u8; 40],
+    indexes: &[u8; 40],
     macs: &[u64; 40],
     event: Event,
     received: &[u8],
     out: &mut [u8],
 ) -> Change
-    ensures { λ r. ⌜ DecidesStep seen node (now (payload .entry)) (now (kinds .entry)) (now (marks .entry)) (now (macs .entry)) event (now (received .entry)) r (now (out .entry)) (now (out .exit)) ⌝ }
+    ensures { λ r. ⌜ DecidesStep seen node (now (payload .entry)) (now (kinds .entry)) (now (indexes .entry)) (now (macs .entry)) event (now (received .entry)) r (now (out .entry)) (now (out .exit)) ⌝ }
 {
-    if !look::fits(seen, kinds, macs) {
+    if !look::fits(seen, kinds, indexes, macs) {
         return change::refusing(Refusal::StateUnfit);
     }
     deciding(
@@ -61,7 +59,7 @@ fn decide(
         node,
         payload,
         kinds,
-        marks,
+        indexes,
         macs,
         event,
         received,
@@ -76,13 +74,13 @@ pub fn counted(
     node: Node,
     payload: &[u8; 240],
     kinds: &[u8; 40],
-    marks: &[u8; 40],
+    indexes: &[u8; 40],
     macs: &[u64; 40],
     event: Event,
     received: &[u8],
     out: &mut [u8],
 ) -> Change
-    ensures { λ r. ⌜ DecidesCounted count seen node (now (payload .entry)) (now (kinds .entry)) (now (marks .entry)) (now (macs .entry)) event (now (received .entry)) r (now (out .entry)) (now (out .exit)) ⌝ }
+    ensures { λ r. ⌜ DecidesCounted count seen node (now (payload .entry)) (now (kinds .entry)) (now (indexes .entry)) (now (macs .entry)) event (now (received .entry)) r (now (out .entry)) (now (out .exit)) ⌝ }
 {
     if count != RECORDS {
         return change::refusing(Refusal::StateUnfit);
@@ -92,7 +90,7 @@ pub fn counted(
         node,
         payload,
         kinds,
-        marks,
+        indexes,
         macs,
         event,
         received,

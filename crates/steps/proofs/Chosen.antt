@@ -54,4 +54,4 @@ module _ (t : List Node) (k mac : ℕ) where
       chosen-known here ∙ one-answers k t f mac (known t k mac) q (listed-told t (known t k mac) (known-listed here)) l (known-mac here) m
     where
       here : 0 < known t k mac
-      here = lowest-found t (Mac mac) k q (both (listedAt t q) _ (listed-passes t q l) (eq-eqb (at t q .mac) mac m)) (f .within q l .from) (omega (arith, f .within q l .upTo, few)) .from
+      here = lowest-found t (Mac mac) k q (both (listedAt t q) _ (listed-passes t q l) (eq-eqb (at t q .mac) mac m)) (f .boards .within q l .from) (omega (arith, f .boards .within q l .upTo, few)) .from

@@ -12,7 +12,7 @@ use Rattle.board.specs.declared.Wanted.the-variants.{Owed, Mac, Free}
 use Rattle.board.specs.Node.{isKind, isMac}
 use Rattle.board.specs.Table.{put}
 use Rattle.board.specs.Wanted.{lowestOf}
-use Rattle.board.specs.Change.{joinedNode, oweAll}
+use Rattle.board.specs.Change.{joinedNode, relisted}
 use Rattle.coordinator.specs.declared.Coordinator.{Coordinator}
 use Rattle.coordinator.specs.declared.Phase.{Phase}
 use Rattle.coordinator.specs.declared.Phase.the-variants.{Resting, Awaiting, ForwardDue, ReturnDue, Seeking, Unknown}
@@ -52,12 +52,12 @@ joinRules c t kind mac =
     (eqb (c .held) 1, Held) ∷
     (eqb (chosen t (c .setup .k) mac) 0, Full) ∷ []
 
--- its record is that of its last join, its type too, whether it was listed or not (02, C-12); either way the list is owed to every listed board, and further joins are held (01, "Join")
+-- its record is that of its last join, its type too, whether it was listed or not (02, C-12); either way every index is counted anew (02, C-13), the list is owed to every listed board, and further joins are held (01, "Join")
 abbrev pub joinedAs : Coordinator → List Node → ℕ → ℕ → ℕ → After
 joinedAs c t kind mac session =
     record {
       coordinator = holding c true;
-      nodes = oweAll (put t (chosen t (c .setup .k) mac) (joinedNode kind mac session));
+      nodes = relisted (put t (chosen t (c .setup .k) mac) (joinedNode kind mac session));
       says = rests;
       bytes = [];
       joined = chosen t (c .setup .k) mac;

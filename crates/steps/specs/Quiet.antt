@@ -11,7 +11,7 @@ use Rattle.board.specs.declared.Node.{Node}
 use Rattle.board.specs.Node.{none}
 use Rattle.board.specs.Table.{at, put}
 use Rattle.board.specs.Wanted.{someListed}
-use Rattle.board.specs.Change.{missed, oweAll}
+use Rattle.board.specs.Change.{missed, relisted}
 use Rattle.coordinator.specs.declared.Coordinator.{Coordinator}
 use Rattle.coordinator.specs.declared.Phase.{Phase}
 use Rattle.coordinator.specs.declared.Phase.the-variants.{Resting, Awaiting, ForwardDue, ReturnDue, Seeking, Unknown}
@@ -26,12 +26,12 @@ use Rattle.steps.specs.Turn.{isAwaiting}
 abbrev pub stillHeld : Coordinator → List Node → Coordinator
 stillHeld c t = choose (someListed t) c (holding c false)
 
--- the third miss drops the board: record cleared, list owed to all who remain (01, "Quiet")
+-- the third miss drops the board: record cleared, list owed to all who remain (01, "Quiet"), and their indexes counted anew (02, C-13)
 abbrev pub droppedAt : Coordinator → List Node → ℕ → After
 droppedAt c t board =
     record {
       coordinator = stillHeld (withPhase c Resting) (put t board none);
-      nodes = oweAll (put t board none);
+      nodes = relisted (put t board none);
       says = rests;
       bytes = [];
       joined = 0;

@@ -13,7 +13,7 @@ use Rattle.frame.specs.Frame.{frameOf}
 use Rattle.board.specs.declared.Node.{Node}
 use Rattle.board.specs.declared.Wanted.the-variants.{Owed}
 use Rattle.board.specs.Table.{at, put}
-use Rattle.board.specs.Wanted.{lowestOf, someListed, indexOf}
+use Rattle.board.specs.Wanted.{lowestOf, someListed}
 use Rattle.board.specs.Round.{nextListed}
 use Rattle.board.specs.Change.{unmarked}
 use Rattle.nodelist.specs.List.{nodeList}
@@ -72,7 +72,7 @@ abbrev pub dueList : Coordinator → List Node → ℕ → Due
 dueList c t board =
     record {
       says = waits board Listing;
-      header = listHeader (c .setup) t board;
+      header = listHeader (c .setup) board (at t board .index);
       payload = nodeList (c .setup .internal) t;
       coordinator = withPhase c (Awaiting board Listing 0 false);
       nodes = put t board (unmarked (at t board));
@@ -83,7 +83,7 @@ abbrev pub dueOffer : Coordinator → List Node → ℕ → Due
 dueOffer c t board =
     record {
       says = waits board Offer;
-      header = signedHeader (c .setup) t board;
+      header = signedHeader (c .setup) board (at t board .index);
       payload = signed (c .setup) offerCode;
       coordinator = offered c board;
       nodes = t;
@@ -94,7 +94,7 @@ abbrev pub dueIdentify : Coordinator → List Node → ℕ → Due
 dueIdentify c t position =
     record {
       says = seeks position ToIdentify;
-      header = identifyHeader (c .setup) t position;
+      header = identifyHeader (c .setup) position (at t position .index);
       payload = [];
       coordinator = withPhase c (Seeking position Identify);
       nodes = t;
@@ -129,11 +129,11 @@ dueSeek AssignDue c t position = dueAssign c t position
 dueSeek Assign c t position = dueOwn c t
 
 -- the next transmission: a response waiting to be returned, else a request waiting to be forwarded, else what an exchange by which a board joins has due, else our own (01, "Turn"; 02, C-11);
--- parameter 2 is the requester's index on the way out and 0 on the way back (01, "Forward and return")
+-- parameter 2 is the requester's stored index on the way out and 0 on the way back (01, "Forward and return"; 02, C-13)
 abbrev pub dueIn : Phase → Coordinator → List Node → Due
 dueIn Resting c t = dueOwn c t
 dueIn (Awaiting board exchange requester acked) c t = dueOwn c t
-dueIn (ForwardDue board requester) c t = dueCarried c t board Forward requester (indexOf t requester)
+dueIn (ForwardDue board requester) c t = dueCarried c t board Forward requester (at t requester .index)
 dueIn (ReturnDue board) c t = dueCarried c t board Return 0 0
 dueIn (Seeking position part) c t = dueSeek part c t position
 dueIn Unknown c t = dueOwn c t

@@ -82,7 +82,7 @@ pub record Holds (kind message packet method parameter1 parameter2 : ℕ) (paylo
 abbrev pub Carries : Kept → ℕ → List ℕ → Type 0
 Carries m second bytes = Holds (m .kind) (m .message) (m .packet) (m .method) (m .parameter) second (take (m .length) (m .payload)) bytes
 
--- bytes of our own: node type 165, method 0, parameter 1 0, parameter 2 the board's index, with this type, packet number and payload (01, "Turn": "Own frames")
+-- bytes of our own: node type 165, method 0, parameter 1 0, parameter 2 the board's index as it is counted, with this type, packet number and payload (01, "Turn": "Own frames")
 abbrev pub Own : List Node → ℕ → ℕ → ℕ → List ℕ → List ℕ → Type 0
 Own t board message packet payload bytes = Holds 165 message packet 0 0 (indexOf t board) payload bytes
 
@@ -147,7 +147,7 @@ module _ (c : Coordinator) (t : List Node) where
   -- what is due in a phase to a board, in an exchange
   data ToBoard : Phase → ℕ → Exchange → Due → Type 0 where
     returning : (b : ℕ) → ToBoard (ReturnDue b) b Return (dueCarried c t b Return 0 0)
-    forwarding : (b q : ℕ) → ToBoard (ForwardDue b q) b Forward (dueCarried c t b Forward q (indexOf t q))
+    forwarding : (b q : ℕ) → ToBoard (ForwardDue b q) b Forward (dueCarried c t b Forward q (at t q .index))
     listing : (p : Phase) → 0 < owedTo c t → ToBoard p (owedTo c t) Listing (dueList c t (owedTo c t))
     offering : (p : Phase) → isDue p ≡ false → ToBoard p (nextListed t (c .setup .k) (c .last)) Offer (dueOffer c t (nextListed t (c .setup .k) (c .last)))
 
@@ -242,18 +242,22 @@ module _ (c : Coordinator) (t : List Node) where
         headed : Headed b d
         headed = case-headed k
 
+    -- the stored index that a frame carries is the counted one (02, C-13)
+    counted : (q : ℕ) {kind message packet method parameter1 : ℕ} {payload bytes : List ℕ} → Holds kind message packet method parameter1 (at t q .index) payload bytes → Holds kind message packet method parameter1 (indexOf t q) payload bytes
+    counted q {kind} {message} {packet} {method} {parameter1} {payload} {bytes} = subst (λ (i : ℕ). Holds kind message packet method parameter1 i payload bytes) (fit-told c t fit .table .numbered q)
+
     -- and says what its exchange asks
     says-due : {p : Phase} {b : ℕ} {e : Exchange} {d : Due} → phaseOf (c .stand) ≡ p → ToBoard p b e d → Says c t e b (frameOf (d .header) (d .payload))
     unfolding toBoard ownHeader
     says-due e (returning b) = (e, holds-back _ _ (case-small e (returning b)))
-    says-due e (forwarding b q) = (q, e, holds-back _ _ (case-small e (forwarding b q)))
-    says-due e (listing p l) = (refl, holds-back _ _ (case-small e (listing p l)))
-    says-due e (offering p idle) = (refl, holds-back _ _ (case-small e (offering p idle)))
+    says-due e (forwarding b q) = (q, e, counted q (holds-back _ _ (case-small e (forwarding b q))))
+    says-due e (listing p l) = (refl, counted (owedTo c t) (holds-back _ _ (case-small e (listing p l))))
+    says-due e (offering p idle) = (refl, counted (nextListed t (c .setup .k) (c .last)) (holds-back _ _ (case-small e (offering p idle))))
 
     -- and that of what the exchange by which a board joins has due goes where it asks
     asks-due : {p : Phase} {q : ℕ} {s : Seeks} {d : Due} → phaseOf (c .stand) ≡ p → ToStake p q s d → Asks c t s q (frameOf (d .header) (d .payload))
     unfolding ownHeader broadcastHeader
-    asks-due e (identifying q) = (e, frame-reaches c _ [] q (fit-told c t fit .setup) (fits-stake c t fit e .0) (omega arith) refl refl refl, holds-back _ _ (omega arith))
+    asks-due e (identifying q) = (e, frame-reaches c _ [] q (fit-told c t fit .setup) (fits-stake c t fit e .0) (omega arith) refl refl refl, counted q (holds-back _ _ (omega arith)))
     asks-due e (assigning q) = (e, frame-broadcast 122 0 _ small, broadcast-holds 122 0 _ small)
       where
         small : length (assignment (c .setup) q (c .found .mac) (c .found .session)) ≤ 240

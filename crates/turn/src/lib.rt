@@ -16,12 +16,12 @@ use steps::Seek;
 ghost use mathlib.Core.Path.{_≡_};
 ghost use lib.ListN.{length, take};
 ghost use mathlib.Core.Bool.{false};
-ghost use Rattle.board.specs.Wanted.{indexOf};
+ghost use Rattle.board.specs.Table.{at};
 ghost use Rattle.message.specs.Message.{toBoard, Sends};
 ghost use Rattle.coordinator.specs.declared.Exchange.the-variants.{Forward};
 ghost use Rattle.coordinator.specs.Phase.{phaseOf};
 ghost use Rattle.coordinator.specs.State.{keptAs};
-ghost use Rattle.look.specs.Seen.{OfTypes, OfMarks};
+ghost use Rattle.look.specs.Seen.{OfTypes, OfIndexes};
 ghost use Rattle.steps.specs.Seek.{isWaiting};
 ghost use Rattle.steps.specs.Turn.{carriedHeader, dueCarried, dueList, dueOffer, dueOwn, dueIdentify, dueAssign, dueSeek, dueIn, isAwaiting, isDue, turnOf};
 ghost use Rattle.change.specs.declared.Move.the-variants.{To};
@@ -102,57 +102,64 @@ fn send_carried(
 fn send_forward(
     seen: Seen,
     payload: &[u8],
-    kinds: &[u8; 40],
+    indexes: &[u8; 40],
     board: usize,
     requester: usize,
     out: &mut [u8],
 ) -> Change
-    ensures { λ r. ⌜ Decides seen (λ c t. OfKept (now (payload .entry)) c t × OfTypes (now (kinds .entry)) c t) (λ c t. sending (dueCarried c t board Forward requester (indexOf t requester)) c t (length (now (out .entry)))) r (now (out .entry)) (now (out .exit)) ⌝ }
+    ensures { λ r. ⌜ Decides seen (λ c t. OfKept (now (payload .entry)) c t × OfIndexes (now (indexes .entry)) c t) (λ c t. sending (dueCarried c t board Forward requester (at t requester .index)) c t (length (now (out .entry)))) r (now (out .entry)) (now (out .exit)) ⌝ }
 {
-    let index = board::index_of(kinds, requester);
+    let index = board::index_at(indexes, requester);
     send_carried(
         seen,
         payload,
         board,
         Exchange::Forward,
         requester,
-        index as u8,
+        index,
         out,
     )
 }
 
 // Sends the node list to a board, clearing its mark.
-fn send_list(seen: Seen, kinds: &[u8; 40], board: usize, out: &mut [u8]) -> Change
-    ensures { λ r. ⌜ Decides seen (OfTypes (now (kinds .entry))) (λ c t. sending (dueList c t board) c t (length (now (out .entry)))) r (now (out .entry)) (now (out .exit)) ⌝ }
+fn send_list(
+    seen: Seen,
+    kinds: &[u8; 40],
+    indexes: &[u8; 40],
+    board: usize,
+    out: &mut [u8],
+) -> Change
+    ensures { λ r. ⌜ Decides seen (λ c t. OfTypes (now (kinds .entry)) c t × OfIndexes (now (indexes .entry)) c t) (λ c t. sending (dueList c t board) c t (length (now (out .entry)))) r (now (out .entry)) (now (out .exit)) ⌝ }
 {
-    let writing = message::write_list(seen.setup, kinds, seen.top, board, out);
+    let index = board::index_at(indexes, board);
+    let writing = message::write_list(seen.setup, kinds, seen.top, board, index, out);
     let next = waiting(board, Exchange::List, 0);
     let answer = Answer::Wait(board, Exchange::List);
     sent(writing, next, board, Edit::Unmarked, answer)
 }
 
 // Offers a board the bus.
-fn send_offer(seen: Seen, kinds: &[u8; 40], board: usize, out: &mut [u8]) -> Change
-    ensures { λ r. ⌜ Decides seen (OfTypes (now (kinds .entry))) (λ c t. sending (dueOffer c t board) c t (length (now (out .entry)))) r (now (out .entry)) (now (out .exit)) ⌝ }
+fn send_offer(seen: Seen, indexes: &[u8; 40], board: usize, out: &mut [u8]) -> Change
+    ensures { λ r. ⌜ Decides seen (OfIndexes (now (indexes .entry))) (λ c t. sending (dueOffer c t board) c t (length (now (out .entry)))) r (now (out .entry)) (now (out .exit)) ⌝ }
 {
-    let writing = message::write_signed(seen.setup, kinds, board, 0, out);
+    let index = board::index_at(indexes, board);
+    let writing = message::write_signed(seen.setup, board, index, 0, out);
     let answer = Answer::Wait(board, Exchange::Offer);
     sent(writing, Move::Offered(board), 0, Edit::Nothing, answer)
 }
 
 // Our own next transmission: the list to the lowest position owed, else an offer to the next listed position. Nobody is
 // listed above the highest listed position, so nobody is looked for there.
-fn send_own(seen: Seen, kinds: &[u8; 40], marks: &[u8; 40], out: &mut [u8]) -> Change
-    ensures { λ r. ⌜ Decides seen (OfMarks (now (kinds .entry)) (now (marks .entry))) (λ c t. sending (dueOwn c t) c t (length (now (out .entry)))) r (now (out .entry)) (now (out .exit)) ⌝ }
+fn send_own(seen: Seen, kinds: &[u8; 40], indexes: &[u8; 40], out: &mut [u8]) -> Change
+    ensures { λ r. ⌜ Decides seen (λ c t. OfTypes (now (kinds .entry)) c t × OfIndexes (now (indexes .entry)) c t) (λ c t. sending (dueOwn c t) c t (length (now (out .entry)))) r (now (out .entry)) (now (out .exit)) ⌝ }
 {
     let state = seen.state;
-    let top = seen.top;
-    let owed = board::lowest_owed(marks, top);
+    let owed = seen.owed;
     if 0 < owed {
-        return send_list(seen, kinds, owed, out);
+        return send_list(seen, kinds, indexes, owed, out);
     }
-    let board = board::next_listed(kinds, top, state.last);
-    send_offer(seen, kinds, board, out)
+    let board = board::next_listed(kinds, seen.top, state.last);
+    send_offer(seen, indexes, board, out)
 }
 
 // The coordinator waits in the exchange by which a board joins.
@@ -167,10 +174,11 @@ fn seeking(position: usize, part: Part) -> Move
 }
 
 // Asks whoever has the address at stake for his ID.
-fn send_identify(seen: Seen, kinds: &[u8; 40], position: usize, out: &mut [u8]) -> Change
-    ensures { λ r. ⌜ Decides seen (OfTypes (now (kinds .entry))) (λ c t. sending (dueIdentify c t position) c t (length (now (out .entry)))) r (now (out .entry)) (now (out .exit)) ⌝ }
+fn send_identify(seen: Seen, indexes: &[u8; 40], position: usize, out: &mut [u8]) -> Change
+    ensures { λ r. ⌜ Decides seen (OfIndexes (now (indexes .entry))) (λ c t. sending (dueIdentify c t position) c t (length (now (out .entry)))) r (now (out .entry)) (now (out .exit)) ⌝ }
 {
-    let writing = message::write_identify(seen.setup, kinds, position, out);
+    let index = board::index_at(indexes, position);
+    let writing = message::write_identify(seen.setup, position, index, out);
     let next = seeking(position, Part::Identify);
     let answer = Answer::Seek(position, Seek::Identify);
     sent(writing, next, 0, Edit::Nothing, answer)
@@ -189,12 +197,12 @@ fn send_assign(seen: Seen, position: usize, out: &mut [u8]) -> Change
 }
 
 // What the exchange by which a board joins has due, in a part that does not wait.
-fn send_seek(part: Part, seen: Seen, kinds: &[u8; 40], position: usize, out: &mut [u8]) -> Change
+fn send_seek(part: Part, seen: Seen, indexes: &[u8; 40], position: usize, out: &mut [u8]) -> Change
     requires { ⌜ isWaiting part ≡ false ⌝ }
-    ensures { λ r. ⌜ Decides seen (OfTypes (now (kinds .entry))) (λ c t. sending (dueSeek part c t position) c t (length (now (out .entry)))) r (now (out .entry)) (now (out .exit)) ⌝ }
+    ensures { λ r. ⌜ Decides seen (OfIndexes (now (indexes .entry))) (λ c t. sending (dueSeek part c t position) c t (length (now (out .entry)))) r (now (out .entry)) (now (out .exit)) ⌝ }
 {
     match part {
-        Part::IdentifyDue => send_identify(seen, kinds, position, out),
+        Part::IdentifyDue => send_identify(seen, indexes, position, out),
         _ => send_assign(seen, position, out),
     }
 }
@@ -206,21 +214,21 @@ fn send_due(
     seen: Seen,
     payload: &[u8],
     kinds: &[u8; 40],
-    marks: &[u8; 40],
+    indexes: &[u8; 40],
     out: &mut [u8],
 ) -> Change
     requires { ⌜ isAwaiting phase ≡ false ⌝ }
-    ensures { λ r. ⌜ Decides seen (λ c t. (phase ≡ phaseOf (c .stand)) × (now (payload .entry) ≡ c .kept .payload) × OfMarks (now (kinds .entry)) (now (marks .entry)) c t) (λ c t. sending (dueIn phase c t) c t (length (now (out .entry)))) r (now (out .entry)) (now (out .exit)) ⌝ }
+    ensures { λ r. ⌜ Decides seen (λ c t. (phase ≡ phaseOf (c .stand)) × (now (payload .entry) ≡ c .kept .payload) × OfTypes (now (kinds .entry)) c t × OfIndexes (now (indexes .entry)) c t) (λ c t. sending (dueIn phase c t) c t (length (now (out .entry)))) r (now (out .entry)) (now (out .exit)) ⌝ }
 {
     match phase {
         Phase::ReturnDue { board } => {
             send_carried(seen, payload, board, Exchange::Return, 0, 0, out)
         }
         Phase::ForwardDue { board, requester } => {
-            send_forward(seen, payload, kinds, board, requester, out)
+            send_forward(seen, payload, indexes, board, requester, out)
         }
-        Phase::Seeking { position, part } => send_seek(part, seen, kinds, position, out),
-        _ => send_own(seen, kinds, marks, out),
+        Phase::Seeking { position, part } => send_seek(part, seen, indexes, position, out),
+        _ => send_own(seen, kinds, indexes, out),
     }
 }
 
@@ -273,10 +281,10 @@ pub fn turn(
     seen: Seen,
     payload: &[u8],
     kinds: &[u8; 40],
-    marks: &[u8; 40],
+    indexes: &[u8; 40],
     out: &mut [u8],
 ) -> Change
-    ensures { λ r. ⌜ Decides seen (λ c t. (now (payload .entry) ≡ c .kept .payload) × OfMarks (now (kinds .entry)) (now (marks .entry)) c t) (λ c t. turnOf c t (length (now (out .entry)))) r (now (out .entry)) (now (out .exit)) ⌝ }
+    ensures { λ r. ⌜ Decides seen (λ c t. (now (payload .entry) ≡ c .kept .payload) × OfTypes (now (kinds .entry)) c t × OfIndexes (now (indexes .entry)) c t) (λ c t. turnOf c t (length (now (out .entry)))) r (now (out .entry)) (now (out .exit)) ⌝ }
 {
     let state = seen.state;
     let stand = state.stand;
@@ -287,5 +295,5 @@ pub fn turn(
     if (seen.top == 0) & !is_due(phase) {
         return change::refusing(Refusal::NobodyListed);
     }
-    send_due(phase, seen, payload, kinds, marks, out)
+    send_due(phase, seen, payload, kinds, indexes, out)
 }

@@ -9,7 +9,7 @@ use Rattle.board.specs.declared.Node.{Node}
 use Rattle.board.specs.Table.{at, put}
 use Rattle.board.specs.Wanted.{someListed}
 use Rattle.board.specs.Node.{none}
-use Rattle.board.specs.Change.{missed, oweAll}
+use Rattle.board.specs.Change.{missed, relisted}
 use Rattle.coordinator.specs.declared.Coordinator.{Coordinator}
 use Rattle.coordinator.specs.declared.Part.{Part}
 use Rattle.coordinator.specs.declared.Part.the-variants.{Search, IdentifyDue, Identify, Present, AssignDue, Assign}
@@ -39,7 +39,7 @@ module _ (c : Coordinator) (t : List Node) where
   ends b true = (refl, at-rest)
   ends b false = go (ltb (at t b .misses) 2) (someListed (put t b none))
     where
-      go : (y z : Bool) → Over (choose y (accepted (withPhase c Resting) (put t b (missed (at t b))) rests []) (record { coordinator = choose z (withPhase c Resting) (holding (withPhase c Resting) false); nodes = oweAll (put t b none); says = rests; bytes = []; joined = 0; dropped = b }))
+      go : (y z : Bool) → Over (choose y (accepted (withPhase c Resting) (put t b (missed (at t b))) rests []) (record { coordinator = choose z (withPhase c Resting) (holding (withPhase c Resting) false); nodes = relisted (put t b none); says = rests; bytes = []; joined = 0; dropped = b }))
       go true z = (refl, at-rest)
       go false true = (refl, at-rest)
       go false false = (refl, at-rest)

@@ -13,8 +13,9 @@ use Rattle.board.specs.declared.Node.{Node}
 use Rattle.board.specs.declared.Wanted.the-variants.{Listed, Owed}
 use Rattle.board.specs.Table.{put}
 use Rattle.board.specs.Wanted.{lowestOf, countOf}
-use Rattle.board.specs.Change.{joinedNode, oweAll}
-use Rattle.board.proofs.Counts.{count-put-most, count-owe-all, owed-listed}
+use Rattle.board.specs.Change.{joinedNode, relisted}
+use Rattle.board.proofs.Counts.{count-put-most, owed-listed}
+use Rattle.board.proofs.Numbered.{count-relisted}
 use Rattle.coordinator.specs.declared.Coordinator.{Coordinator}
 use Rattle.coordinator.specs.declared.Phase.{Phase}
 use Rattle.coordinator.specs.declared.Phase.the-variants.{Resting, Awaiting, ForwardDue, ReturnDue, Seeking, Unknown}
@@ -44,15 +45,15 @@ rests-only Unknown h = absurd (false≢true h)
 
 module _ (c : Coordinator) (t : List Node) (h : fits c t ≡ true) where
   -- a board put on the list where joins were not held, and the list owed to all: the room for it was there
-  join-falls : (p : ℕ) (n : Node) → phaseOf (c .stand) ≡ Resting → eqb (c .held) 1 ≡ false → fits (holding c true) (oweAll (put t p n)) ≡ true → 1 ≤ countOf Listed t → potential (holding c true) (oweAll (put t p n)) < potential c t
+  join-falls : (p : ℕ) (n : Node) → phaseOf (c .stand) ≡ Resting → eqb (c .held) 1 ≡ false → fits (holding c true) (relisted (put t p n)) ≡ true → 1 ≤ countOf Listed t → potential (holding c true) (relisted (put t p n)) < potential c t
   unfolding potential underWay
   join-falls p n w free f l =
       rw (w, free)
       (omega (
         arith,
-        ahead-join (c .setup .k) (countOf Listed t) (countOf Listed (oweAll (put t p n))) l (omega (arith, count-owe-all (put t p n), count-put-most Listed t p n (fits-forty c t h))),
-        owed-listed (oweAll (put t p n)),
-        listed-most (holding c true) (oweAll (put t p n)) f,
+        ahead-join (c .setup .k) (countOf Listed t) (countOf Listed (relisted (put t p n))) l (omega (arith, count-relisted (put t p n), count-put-most Listed t p n (fits-forty c t h))),
+        owed-listed (relisted (put t p n)),
+        listed-most (holding c true) (relisted (put t p n)) f,
       ))
 
   -- where nothing is waited for or due the panel rests

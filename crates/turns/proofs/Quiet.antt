@@ -13,8 +13,9 @@ use Rattle.board.specs.declared.Wanted.the-variants.{Listed, Owed}
 use Rattle.board.specs.Node.{none}
 use Rattle.board.specs.Table.{at, put}
 use Rattle.board.specs.Wanted.{countOf, someListed}
-use Rattle.board.specs.Change.{missed, oweAll}
-use Rattle.board.proofs.Counts.{count-put, count-owe-all, owed-listed, counted-listed}
+use Rattle.board.specs.Change.{missed, relisted}
+use Rattle.board.proofs.Counts.{count-put, owed-listed, counted-listed}
+use Rattle.board.proofs.Numbered.{count-relisted}
 use Rattle.coordinator.specs.declared.Coordinator.{Coordinator}
 use Rattle.coordinator.specs.declared.Exchange.{Exchange}
 use Rattle.coordinator.specs.declared.Exchange.the-variants.{Offer, List as Listing, Forward, Return}
@@ -44,30 +45,30 @@ waiting-least k b q Return a owed = omega arith
 module _ (c : Coordinator) (t : List Node) (h : fits c t ≡ true) where
   module _ {b q : ℕ} {e : Exchange} {a : Bool} (w : phaseOf (c .stand) ≡ Awaiting b e q a) where
     -- one board less is listed after the drop
-    one-less : countOf Listed (oweAll (put t b none)) + 1 ≡ countOf Listed t
-    one-less = omega (arith, count-owe-all (put t b none), count-put Listed t b none (fits-forty c t h) (here .from) (omega (arith, here .upTo, here .few)), ap one (here .listed))
+    one-less : countOf Listed (relisted (put t b none)) + 1 ≡ countOf Listed t
+    one-less = omega (arith, count-relisted (put t b none), count-put Listed t b none (fits-forty c t h) (here .from) (omega (arith, here .upTo, here .few)), ap one (here .listed))
       where
         here : Board c t b
         here = awaited c t h w
 
     -- the room that the drop leaves takes the lists that it owes
-    drop-falls : 1 ≤ countOf Listed (oweAll (put t b none)) → potential (withPhase c Resting) (oweAll (put t b none)) < potential c t
+    drop-falls : 1 ≤ countOf Listed (relisted (put t b none)) → potential (withPhase c Resting) (relisted (put t b none)) < potential c t
     unfolding potential underWay
     drop-falls n =
         rw (phase-back resting, w)
         (omega (
           arith,
-          ahead-drop (c .setup .k) (countOf Listed t) (countOf Listed (oweAll (put t b none))) (unheld (c .held)) n one-less,
+          ahead-drop (c .setup .k) (countOf Listed t) (countOf Listed (relisted (put t b none))) (unheld (c .held)) n one-less,
           waiting-least (c .setup .k) b q e a (countOf Owed t),
-          owed-listed (oweAll (put t b none)),
+          owed-listed (relisted (put t b none)),
           one-less,
           listed-most c t h,
         ))
 
-    dropping : (s : Bool) → someListed (put t b none) ≡ s → Moves c t (record { coordinator = choose s (withPhase c Resting) (holding (withPhase c Resting) false); nodes = oweAll (put t b none); says = rests; bytes = []; joined = 0; dropped = b })
+    dropping : (s : Bool) → someListed (put t b none) ≡ s → Moves c t (record { coordinator = choose s (withPhase c Resting) (holding (withPhase c Resting) false); nodes = relisted (put t b none); says = rests; bytes = []; joined = 0; dropped = b })
     unfolding choose
     dropping true s = works (record { said = refl; nobody = plain-rests .1; last = refl; falls = λ f n m. drop-falls m })
-    dropping false s = works (record { said = refl; nobody = plain-rests .1; last = refl; falls = λ f n m. absurd (false≢true (sym s ∙ counted-listed (put t b none) (omega (arith, count-owe-all (put t b none))))) })
+    dropping false s = works (record { said = refl; nobody = plain-rests .1; last = refl; falls = λ f n m. absurd (false≢true (sym s ∙ counted-listed (put t b none) (omega (arith, count-relisted (put t b none))))) })
 
     missing : (s : Bool) → Moves c t (choose s (accepted (withPhase c Resting) (put t b (missed (at t b))) rests []) (droppedAt c t b))
     unfolding choose

@@ -13,13 +13,14 @@ use Rattle.frame.specs.Frame.{headerOf, payloadOf}
 use Rattle.board.specs.Node.{isKind, isMac}
 use Rattle.board.specs.Table.{at, listedAt}
 use Rattle.board.specs.Wanted.{someListed, indexOf}
-use Rattle.setup.specs.Setup.{isPool}
+use Rattle.setup.specs.Setup.{isPool, address}
 use Rattle.nodelist.specs.List.{nodeList}
 use Rattle.accept.specs.Accept.{requestType}
 use Rattle.series.specs.Series.{left, Input, World, Panel, Fresh, after, isAccepted, waitedFor, waitsIn, offers, accepted, stays}
 use Rattle.series.specs.Observed.{Who, nothing, saw, seen}
 use Rattle.series.specs.Demand.{WhoStays, NoTwoAlike, RoundRobin, Bounded, NeverStuck, Transmits, EndsWait, bound, joinWith, frameWith, turnWith, quietWith, Starts, Allowed, TakesJoins}
 use Rattle.series.specs.AsJoined.{noted, isOwn, forwardedTo, destined, AsJoined}
+use Rattle.series.specs.StoredIndex.{storedAt, carriesIndex, StoredIndex}
 use Rattle.series.specs.Exchange.{Runs, comes, reached, isRunning, OneJoin, discoveries, peopled, Seldom}
 use Rattle.series.specs.Wire.{isSending, addressed, OnTheWire}
 
@@ -71,6 +72,24 @@ module _ {P : Panel} {k : ℕ} {w : World} (f : Fresh P k w) (is : List Input) w
   -- a listed board has another type than its last join told
   pub mistyped : (p : ℕ) → listedAt (after P w is .nodes) p ≡ true → eqb (at (after P w is .nodes) p .kind) (seen P w nothing is .who p .kind) ≡ false → AsJoined P → ⊥
   mistyped p listed apart s = eqb-false _ _ apart (ap (λ (x : Who). x .kind) (s .who k w f is p listed))
+
+  -- a position's stored index is another than the counted one
+  pub miscounted : (p : ℕ) → eqb (storedAt (after P w is) p) (indexOf (after P w is .nodes) p) ≡ false → StoredIndex P → ⊥
+  miscounted p apart s = eqb-false _ _ apart (s .counted k w f is p)
+
+  -- or than the count over what the joins told
+  pub mistold : (p : ℕ) → eqb (storedAt (after P w is) p) (indexOf (noted (seen P w nothing is)) p) ≡ false → StoredIndex P → ⊥
+  mistold p apart s = eqb-false _ _ apart (s .told k w f is p)
+
+  -- another goes out: in a turn; in the forward of a request; in the ACK to a frame from position p
+  pub miscarried : carriesIndex (P .step (after P w is) (turnWith 252) .says) ≡ true → eqb (headerOf (P .step (after P w is) (turnWith 252) .bytes) .parameter2) (storedAt (after P w is) (waitedFor (P .step (after P w is) (turnWith 252) .says))) ≡ false → StoredIndex P → ⊥
+  miscarried own apart s = eqb-false _ _ apart (s .carried k w f is 252 own)
+
+  pub misforwarded : (received : List ℕ) → requestType (headerOf received .message) ≡ true → isAccepted (P .step (after P w is) (frameWith received 252) .says) ≡ true → waitsIn (P .step (left (P .step (after P w is) (frameWith received 252))) (turnWith 252) .says) ≡ 3 → eqb (headerOf (P .step (left (P .step (after P w is) (frameWith received 252))) (turnWith 252) .bytes) .parameter2) (storedAt (left (P .step (after P w is) (frameWith received 252))) (seen P w nothing is .awaited)) ≡ false → StoredIndex P → ⊥
+  misforwarded received request taken forwards apart s = eqb-false _ _ apart (s .forwarded k w f is received 252 252 request taken forwards)
+
+  pub misacknowledged : (received : List ℕ) (p : ℕ) → address (after P w is .coordinator .setup) p ≡ headerOf received .source → leb 1 (length (P .step (after P w is) (frameWith received 252) .bytes)) ≡ true → eqb (headerOf (P .step (after P w is) (frameWith received 252) .bytes) .parameter2) (storedAt (left (P .step (after P w is) (frameWith received 252))) p) ≡ false → StoredIndex P → ⊥
+  misacknowledged received p from writes apart s = eqb-false _ _ apart (s .acknowledged k w f is received 252 p from (leb-true 1 _ writes))
 
   -- byte p of a list is another than the joins told; so is the index in an offer or a list; so is the board to which a request goes
   pub mislisted : (p : ℕ) → waitsIn (P .step (after P w is) (turnWith 252) .says) ≡ 2 → eqb (getD (payloadOf (P .step (after P w is) (turnWith 252) .bytes)) p 0) (getD (nodeList (after P w is .coordinator .setup .internal) (noted (seen P w nothing is))) p 0) ≡ false → AsJoined P → ⊥

@@ -2,17 +2,18 @@
 use native.Mathlib.Omega.{arith}
 use mathlib.Core.Path.{refl}
 use mathlib.Core.List.{[], _∷_, _++_}
-use Rattle.steps.specs.declared.Event.the-variants.{Join, Frame}
+use Rattle.steps.specs.declared.Event.the-variants.{Join, Turn, Frame, Quiet}
 use Rattle.steps.specs.After.{After}
 use Rattle.series.specs.Series.{Input, World, Fresh, fresh-start}
 use Rattle.series.specs.Demand.{WhoStays, NoTwoAlike, FitForEver, RoundRobin, Bounded, NeverStuck, Starts, TakesJoins}
 use Rattle.series.specs.AsJoined.{AsJoined}
+use Rattle.series.specs.StoredIndex.{StoredIndex}
 use Rattle.series.specs.Exchange.{OneJoin, Seldom}
 use Rattle.series.specs.Wire.{OnTheWire}
-use Rattle.wrong.specs.Wrong.{stepping, quietDoesNothing, quietChangesNothing, quietNeverDrops, offersOneBoard, onlyLooksBusy, waitsForEver, countsSinceJoining, restartsRound, hearsAnyone, listsTwice, keepsType, joinsTwice, joinsInside, missesInAssign, discoversAgain, tellsAnother, takesNoSetup, takesNoJoin}
-use Rattle.wrong.specs.Trial.{before, begun, one, two, turn, quiet, missesTwice, answersBetween, anotherBetween, listed, eighteenQuiets, offeredOnce, joinsAgain, retyped, retypedBelow, asksForType, firstRound, nineLists, bothJoin, twoOffers, joinedOnce, listedOnce, discover, secondFound, firstFound, foundRetyped, twoDiscoveries}
+use Rattle.wrong.specs.Wrong.{stepping, quietDoesNothing, quietChangesNothing, quietNeverDrops, offersOneBoard, onlyLooksBusy, waitsForEver, countsSinceJoining, restartsRound, hearsAnyone, listsTwice, keepsType, keepsIndexes, countsFromOne, joinsTwice, joinsInside, missesInAssign, discoversAgain, tellsAnother, takesNoSetup, takesNoJoin}
+use Rattle.wrong.specs.Trial.{before, begun, one, two, turn, quiet, missesTwice, answersBetween, anotherBetween, listed, echo, eighteenQuiets, offeredOnce, joinsAgain, retyped, retypedBelow, retypedListed, droppedBelow, joinedBelow, asksForType, firstRound, nineLists, bothJoin, twoOffers, joinedOnce, listedOnce, discover, secondFound, foundBelow, firstFound, foundRetyped, twoDiscoveries}
 use Rattle.wrong.proofs.Opened.{opened}
-use Rattle.wrong.proofs.Laws.{outstays, leaves-early, leaves-unasked, passed-over, starved, stuck, lingers, alike, mistyped, mislisted, misindexed, misrouted, joins-again, joins-inside, discovers-often, misdirected, turned-away, not-started}
+use Rattle.wrong.proofs.Laws.{outstays, leaves-early, leaves-unasked, passed-over, starved, stuck, lingers, alike, mistyped, miscounted, mistold, miscarried, misforwarded, misacknowledged, mislisted, misindexed, misrouted, joins-again, joins-inside, discovers-often, misdirected, turned-away, not-started}
 
 -- a fresh start with one address, and with two
 from-one : {step : World → Input → After} → Fresh (stepping step) 1 (begun one)
@@ -94,11 +95,59 @@ keeps-type-listed = mislisted from-one retyped 1 refl refl
 
 pub keeps-type-indexed : AsJoined (keepsType (Join 0 0 0)) → ⊥
 unfolding opened
-keeps-type-indexed = misindexed from-two retypedBelow refl refl
+keeps-type-indexed = misindexed from-two retypedListed refl refl
 
 pub keeps-type-routed : AsJoined (keepsType (Join 0 0 0)) → ⊥
 unfolding opened
-keeps-type-routed = misrouted from-two (retypedBelow ++ turn ∷ []) asksForType refl refl refl refl
+keeps-type-routed = misrouted from-two (retypedListed ++ turn ∷ []) asksForType refl refl refl refl
+
+-- a board keeps its index when one below it joins again as its type, when another one of its type joins below it, when one below it is found, and when one below it is dropped
+pub keeps-indexes-retyped : StoredIndex (keepsIndexes (Join 0 0 0)) → ⊥
+unfolding opened
+keeps-indexes-retyped = miscounted from-two retypedBelow 2 refl
+
+pub keeps-indexes-joined : StoredIndex (keepsIndexes (Join 0 0 0)) → ⊥
+unfolding opened
+keeps-indexes-joined = miscounted from-two joinedBelow 2 refl
+
+pub keeps-indexes-found : StoredIndex (keepsIndexes Frame) → ⊥
+unfolding opened
+keeps-indexes-found = miscounted from-two foundBelow 2 refl
+
+pub keeps-indexes-dropped : StoredIndex (keepsIndexes Quiet) → ⊥
+unfolding opened
+keeps-indexes-dropped = miscounted from-two (droppedBelow 2) 2 refl
+
+-- and the next step is refused 22
+pub keeps-indexes-joined-unfit : FitForEver (keepsIndexes (Join 0 0 0)) → ⊥
+unfolding opened
+keeps-indexes-joined-unfit s = s 2 (begun two) from-two joinedBelow turn refl
+
+pub keeps-indexes-found-unfit : FitForEver (keepsIndexes Frame) → ⊥
+unfolding opened
+keeps-indexes-found-unfit s = s 2 (begun two) from-two foundBelow turn refl
+
+pub keeps-indexes-dropped-unfit : FitForEver (keepsIndexes Quiet) → ⊥
+unfolding opened
+keeps-indexes-dropped-unfit s = s 2 (begun two) from-two (droppedBelow 2) turn refl
+
+-- a panel that keeps the old type counts by it, and not by what the joins told
+pub keeps-type-counted : StoredIndex (keepsType (Join 0 0 0)) → ⊥
+unfolding opened
+keeps-type-counted = mistold from-two retypedBelow 2 refl
+
+-- an offer, a forward and an ACK that count from one
+pub counts-from-one-offered : StoredIndex (countsFromOne Turn) → ⊥
+unfolding opened
+counts-from-one-offered = miscarried from-one listedOnce refl refl
+
+pub counts-from-one-forwarded : StoredIndex (countsFromOne Turn) → ⊥
+unfolding opened
+counts-from-one-forwarded = misforwarded from-two (retypedListed ++ turn ∷ []) asksForType refl refl refl refl
+
+pub counts-from-one-acknowledged : StoredIndex (countsFromOne Frame) → ⊥
+unfolding opened
+counts-from-one-acknowledged = misacknowledged from-one listed (echo .received) 1 refl refl refl
 
 -- a board that is found joins by its answer to the discovery, and again by its Set Address Response
 pub joins-twice-refuted : OneJoin joinsTwice → ⊥

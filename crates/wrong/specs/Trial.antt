@@ -93,10 +93,25 @@ joinsAgain = offeredOnce ++ quiet ∷ first ∷ []
 abbrev pub retyped : List Input
 retyped = joinedOnce ++ joins 3 7 ∷ []
 
--- a second board, at address 5, is of type 3 from the beginning; the first joins again as that type, and the next offer is the second's
+-- a second board, at address 5, is of type 3 from the beginning; the first joins again as that type
 abbrev pub retypedBelow : List Input
-retypedBelow =
-    first ∷ turn ∷ quiet ∷ turn ∷ ack ∷ joins 3 8 ∷ turn ∷ quiet ∷ turn ∷ quiet ∷ turn ∷ request ∷ joins 3 7 ∷ turn ∷ quiet ∷ turn ∷ quiet ∷ turn ∷ quiet ∷ []
+retypedBelow = first ∷ turn ∷ quiet ∷ turn ∷ ack ∷ joins 3 8 ∷ turn ∷ quiet ∷ turn ∷ quiet ∷ turn ∷ request ∷ joins 3 7 ∷ []
+
+-- both have their lists, and the next offer is the second's
+abbrev pub retypedListed : List Input
+retypedListed = retypedBelow ++ turn ∷ quiet ∷ turn ∷ quiet ∷ turn ∷ quiet ∷ []
+
+-- a board of this type joins at address 5, and the first, which misses its third message, is dropped
+abbrev pub droppedBelow : ℕ → List Input
+droppedBelow kind = joinedOnce ++ joins kind 10 ∷ turn ∷ quiet ∷ []
+
+-- one of the second board's type is at address 5, has had its list and an offer, and the first position is free
+abbrev freeBelow : List Input
+freeBelow = droppedBelow 5 ++ turn ∷ quiet ∷ turn ∷ quiet ∷ []
+
+-- the second board joins there
+abbrev pub joinedBelow : List Input
+joinedBelow = freeBelow ++ second ∷ []
 
 -- its request for a board of type 3: type 1 with method 2
 abbrev pub asksForType : List ℕ
@@ -139,6 +154,10 @@ secondTakes =
 -- the second board is found, nobody has address 2, and it takes it
 abbrev pub secondFound : List Input
 secondFound = secondAnswers ∷ turn ∷ quiet ∷ turn ∷ secondTakes ∷ []
+
+-- and so where one of its type is at address 5
+abbrev pub foundBelow : List Input
+foundBelow = freeBelow ++ discover ∷ secondFound
 
 -- the first board misses twice, and answers a discovery; nobody answers at its own address, and it is given it again
 abbrev pub firstFound : List Input

@@ -1,17 +1,20 @@
--- Wrong panels, each ours with one change: the errors that the rule book names (01, "Agreement between code and promise" and "Errors that look reasonable"), and those that discovery and retyping make possible (02, C-11 and C-12).
+-- Wrong panels, each ours with one change: the errors that the rule book names (01, "Agreement between code and promise" and "Errors that look reasonable"), and those that discovery, retyping and stored indexes make possible (02, C-11 to C-13).
 use Prim.Native.Nat.{ℕ, _+_}
-use mathlib.Core.Bool.{Bool, _&&_}
-use mathlib.Core.List.{List, []}
-use lib.ListN.{getD}
+use mathlib.Core.Bool.{Bool, _&&_, not}
+use mathlib.Core.List.{List, [], map}
+use lib.ListN.{length, getD}
 use lib.Dec.{eqb}
 use Rattle.ground.specs.Choose.{choose}
+use Rattle.ground.specs.Below.{upFrom}
 use Rattle.refusal.specs.declared.Refusal.the-variants.{NotWaiting, BadPool, Full}
-use Rattle.frame.specs.Frame.{headerOf}
+use Rattle.frame.specs.declared.Header.{Header}
+use Rattle.frame.specs.Frame.{headerOf, payloadOf, frameOf}
 use Rattle.board.specs.declared.Node.{Node}
 use Rattle.board.specs.declared.Wanted.the-variants.{Listed, Free}
 use Rattle.board.specs.Table.{at, put, listedAt}
 use Rattle.board.specs.Wanted.{lowestOf}
-use Rattle.board.specs.Change.{joinedNode, oweAll}
+use Rattle.board.specs.Index.{indexed, numbered}
+use Rattle.board.specs.Change.{joinedNode, oweAll, relisted}
 use Rattle.coordinator.specs.declared.Coordinator.{Coordinator}
 use Rattle.coordinator.specs.declared.Exchange.the-variants.{Offer}
 use Rattle.coordinator.specs.declared.Part.{Part}
@@ -86,7 +89,7 @@ waitsForEver = changedAt Quiet (λ w i a. choose (roundMade (w .coordinator)) (r
 -- board p with the misses that it had before
 abbrev missesKept : List Node → List Node → ℕ → Node
 missesKept before t p =
-    record { kind = at t p .kind; mac = at t p .mac; session = at t p .session; misses = at before p .misses; owed = at t p .owed }
+    record { kind = at t p .kind; mac = at t p .mac; session = at t p .session; misses = at before p .misses; owed = at t p .owed; index = at t p .index }
 
 -- "Counting misses since joining and not since last heard": a frame does not clear the misses of the board that is waited for
 abbrev pub countsSinceJoining : Panel
@@ -118,7 +121,7 @@ hearsAnyone =
 
 -- the record of the board that joined, at the lowest position that was free
 abbrev joinedAnew : World → After → List Node
-joinedAnew w a = oweAll (put (w .nodes) (lowestOf (w .nodes) Free (w .coordinator .setup .k)) (at (a .nodes) (a .joined)))
+joinedAnew w a = relisted (put (w .nodes) (lowestOf (w .nodes) Free (w .coordinator .setup .k)) (at (a .nodes) (a .joined)))
 
 -- against "A listed MAC has its address again" (01, "Join"): it gets the lowest free position, as a new one does
 abbrev pub listsTwice : Panel
@@ -133,11 +136,45 @@ typeKept before t p =
       session = at t p .session;
       misses = at t p .misses;
       owed = at t p .owed;
+      index = at t p .index;
     }
 
--- against "a join with a listed MAC also replaces the type" (02, C-12): in this kind of step the board that joins keeps the type on record
+-- against "a join with a listed MAC also replaces the type" (02, C-12): in this kind of step the board that joins keeps the type on record, and every index is counted by it
 abbrev pub keepsType : Event → Panel
-keepsType event = changedAt event (λ w i a. leaving a (a .coordinator) (put (a .nodes) (a .joined) (typeKept (w .nodes) (a .nodes) (a .joined))))
+keepsType event = changedAt event (λ w i a. leaving a (a .coordinator) (numbered (put (a .nodes) (a .joined) (typeKept (w .nodes) (a .nodes) (a .joined)))))
+
+-- board p with the index that it had before, where it was listed, is listed and did not join
+abbrev indexKept : List Node → After → ℕ → Node
+indexKept before a p =
+    choose (listedAt before p && listedAt (a .nodes) p && not (eqb p (a .joined))) (indexed (at (a .nodes) p) (at before p .index))
+    (at (a .nodes) p)
+
+-- against "for every board, those not named by the step included" (02, C-13): in this kind of step every board but the one that joins keeps the index on record
+abbrev pub keepsIndexes : Event → Panel
+keepsIndexes event = changedAt event (λ w i a. leaving a (a .coordinator) (map (indexKept (w .nodes) a) (upFrom 1 40)))
+
+-- a frame with one more for the index
+abbrev indexMore : Header → Header
+indexMore h =
+    record {
+      destination = h .destination;
+      source = h .source;
+      subnet = h .subnet;
+      method = h .method;
+      parameter1 = h .parameter1;
+      parameter2 = h .parameter2 + 1;
+      kind = h .kind;
+      message = h .message;
+      packet = h .packet;
+    }
+
+abbrev countedFromOne : List ℕ → List ℕ
+countedFromOne b = choose (eqb (length b) 0) b (frameOf (indexMore (headerOf b)) (payloadOf b))
+
+-- against the index in parameter 2 (01, "Turn": "Own frames", and "Forward and return"): in this kind of step the frames that are written count from one, though the index on record is right (02, C-13)
+abbrev pub countsFromOne : Event → Panel
+countsFromOne event =
+    changedAt event (λ w i a. record { coordinator = a .coordinator; nodes = a .nodes; says = a .says; bytes = countedFromOne (a .bytes); joined = a .joined; dropped = a .dropped })
 
 -- the panel is in this part of the exchange by which a board joins (02, C-11)
 abbrev isIn : Part → World → Bool
@@ -145,7 +182,7 @@ isIn part w = eqb (w .coordinator .stand .stage) (stageOf part)
 
 -- whoever answered the discovery, put on the list at the position that is now at stake
 abbrev listedAtOnce : After → List Node
-listedAtOnce a = put (a .nodes) (a .coordinator .stand .board) (joinedNode (a .coordinator .found .kind) (a .coordinator .found .mac) (a .coordinator .found .session))
+listedAtOnce a = numbered (put (a .nodes) (a .coordinator .stand .board) (joinedNode (a .coordinator .found .kind) (a .coordinator .found .mac) (a .coordinator .found .session)))
 
 -- against "exactly one join" (02, C-11): a discovery's response joins already, and the exchange goes on
 abbrev pub joinsTwice : Panel

@@ -78,6 +78,9 @@ pub fn further(before: &Panel, line: &str, answer: &str, after: &Panel) -> Vec<S
     if to_the_byte(line, answer) {
         cases.push(format!("{}: {head}, room to the byte", step(line)));
     }
+    if index_sent(answer) {
+        cases.push(format!("{}: {head}, an index above 0", step(line)));
+    }
     if zero_taken(line, &head) {
         cases.push(format!("frame: check byte 0 taken ({wait})"));
     }
@@ -193,16 +196,28 @@ fn late_where(before: &Panel, line: &str) -> &'static str {
     }
 }
 
-/// Whether the bytes written fill the room lent, which `discover`, `turn` and
-/// `frame` have as their second word and the answer as its second or fourth.
-fn to_the_byte(line: &str, answer: &str) -> bool {
+/// COUNT and HEX of an answer, if bytes were written.
+fn written(answer: &str) -> Option<(&str, &str)> {
     let words: Vec<&str> = answer.split(' ').collect();
-    let written = match words[..] {
-        ["wait", _, _, count, _] => count,
-        ["deliver" | "transmit", count, _] | ["transmit", count, _, "joined", _] => count,
-        _ => return false,
-    };
-    line.split(' ').nth(1) == Some(written)
+    match words[..] {
+        ["wait", _, _, count, hex] => Some((count, hex)),
+        ["deliver" | "transmit", count, hex] => Some((count, hex)),
+        ["transmit", count, hex, "joined", _] => Some((count, hex)),
+        _ => None,
+    }
+}
+
+/// Whether the bytes written fill the room lent, which `discover`, `turn` and
+/// `frame` have as their second word.
+fn to_the_byte(line: &str, answer: &str) -> bool {
+    let room = line.split(' ').nth(1);
+    written(answer).map_or(false, |(count, _)| room == Some(count))
+}
+
+/// Whether parameter 2 of the frame written, at offset 5, is above 0.
+fn index_sent(answer: &str) -> bool {
+    let parameter2 = written(answer).and_then(|(_, hex)| hex.get(10..12));
+    parameter2.map_or(false, |digits| digits != "00")
 }
 
 /// Whether an accepted frame had a check byte 0.
@@ -249,5 +264,13 @@ mod tests {
         assert!(to_the_byte("frame 29 AB", "transmit 29 AB joined 1"));
         assert!(!to_the_byte("turn 30", "wait 1 offer 29 AB"));
         assert!(!to_the_byte("frame 0 AB", "wait 1 forward 0"));
+    }
+
+    #[test]
+    fn an_index_above_0_is_seen() {
+        assert!(index_sent("wait 1 offer 29 02FF03000001A5"));
+        assert!(index_sent("transmit 29 02FF03000010A5 joined 1"));
+        assert!(!index_sent("deliver 29 02FF03010100A5"));
+        assert!(!index_sent("wait 1 forward 0"));
     }
 }

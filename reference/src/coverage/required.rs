@@ -76,6 +76,8 @@ pub fn cases() -> Vec<String> {
     }
     cases.extend(discoveries());
     cases.extend(texts(&RETYPED));
+    cases.extend(texts(&INDEX_SENT));
+    cases.extend(indexes());
     for wait in DROPS {
         cases.push(format!("quiet: rest dropped ({wait}, a miss)"));
     }
@@ -266,16 +268,43 @@ const PATHS: [&str; 49] = [
 ];
 
 /// What goes by the types of boards that came back as something else.
-const RETYPED: [&str; 8] = [
+const RETYPED: [&str; 6] = [
     "a list told of a retyping (join)",
     "a list told of a retyping (identify)",
     "a list told of a retyping (assign)",
-    "a retyping raised the index of another board",
-    "a retyping lowered the index of another board",
     "a request of method 1 was passed on to a retyped board",
     "a request of method 2 was passed on to a retyped board",
     "a request for the type that a board had was discarded",
 ];
+
+/// The frames that carry an index (C-13), each with another than 0.
+const INDEX_SENT: [&str; 7] = [
+    "turn: wait offer, an index above 0",
+    "turn: wait list, an index above 0",
+    "turn: wait forward, an index above 0",
+    "turn: wait identify, an index above 0",
+    "frame: deliver, an index above 0",
+    "frame: transmit, an index above 0",
+    "frame: transmit joined, an index above 0",
+];
+
+/// What joins, retypings and drops do to the indexes on record (C-13), and a
+/// table that shows each of these.
+fn indexes() -> Vec<String> {
+    let mut moves = vec!["a drop lowered the index of another board".to_string()];
+    for way in ["join", "identify", "assign"] {
+        for step in ["a join of a new board", "a join as it was", "a retyping"] {
+            moves.push(format!("{step} ({way}) gave its board an index above 0"));
+        }
+        moves.push(format!("a join of a new board ({way}) raised the index of another board"));
+        moves.push(format!("a retyping ({way}) raised the index of another board"));
+        moves.push(format!("a retyping ({way}) lowered the index of another board"));
+    }
+    let shown: Vec<String> =
+        moves.iter().map(|case| format!("a table showed that {case}")).collect();
+    moves.extend(shown);
+    moves
+}
 
 /// Each disturbance where it can be, as it has to be answered there.
 pub fn disturbances() -> Vec<String> {

@@ -33,7 +33,7 @@ impl Retypings {
         match head {
             "ready" => *self = Retypings::default(),
             "rest dropped" => self.boards.retain(|board| after.position_of(board.mac).is_some()),
-            "rest joined" | "transmit joined" => return self.note_join(before, after),
+            "rest joined" | "transmit joined" => self.note_join(before, after),
             "wait list" => return self.note_list(),
             "transmit" => return self.note_request(line, after),
             _ => (),
@@ -42,16 +42,15 @@ impl Retypings {
     }
 
     /// Keeps a board that is retyped.
-    fn note_join(&mut self, before: &Panel, after: &Panel) -> Vec<String> {
+    fn note_join(&mut self, before: &Panel, after: &Panel) {
         let at = match before.listed().find(|&at| retyped(before, at, after)) {
             Some(at) => at,
-            None => return Vec::new(),
+            None => return,
         };
         let (mac, was) = (after.record(at).mac, before.record(at).node_type);
         self.boards.retain(|board| board.mac != mac);
         self.boards.push(Retyped { mac, was });
         self.untold = Some(waiting(before).unwrap_or("join"));
-        moved(before, at, after)
     }
 
     fn note_list(&mut self) -> Vec<String> {
@@ -74,16 +73,6 @@ impl Retypings {
             _ => Vec::new(),
         }
     }
-}
-
-/// How the indexes of the other boards follow the retyping of this one.
-fn moved(before: &Panel, at: usize, after: &Panel) -> Vec<String> {
-    let others = || before.listed().filter(|&other| other != at);
-    let raised = others().any(|other| after.index(other) > before.index(other));
-    let lowered = others().any(|other| after.index(other) < before.index(other));
-    let moves = [(raised, "raised"), (lowered, "lowered")];
-    let met = moves.into_iter().filter(|(met, _)| *met);
-    met.map(|(_, how)| format!("a retyping {how} the index of another board")).collect()
 }
 
 #[cfg(test)]
@@ -118,14 +107,14 @@ mod tests {
     }
 
     #[test]
-    fn a_retyping_is_seen_in_indexes_lists_and_requests() {
+    fn a_retyping_is_seen_in_lists_and_requests() {
         let (mut retypings, before) = (Retypings::default(), with(&[2, 1, 3]));
         let nothing = Vec::<String>::new();
         assert_eq!(asked(&mut retypings, &before, 2, 2), nothing);
         let mut after = before.clone();
         after.join(3, 1, 0).unwrap();
         let joined = retypings.note(&before, "join 3 1 0", "rest joined", &after);
-        assert_eq!(joined, ["a retyping raised the index of another board"]);
+        assert_eq!(joined, nothing);
         let mut list = || retypings.note(&after, "turn 64", "wait list", &after);
         assert_eq!(list(), ["a list told of a retyping (join)"]);
         assert_eq!(list(), nothing);

@@ -9,12 +9,9 @@ phase-of-requires c κs = search needs
 is-resting-requires : tie.Need-is-resting-requires
 is-resting-requires c κs = search needs
 
-lowest-owed-requires : tie.Need-lowest-owed-requires
-lowest-owed-requires c κs = search needs
-
 returns : tie.Need-returns
 returns c = cc
 
 pub is-busy-spec : {M : Type 1} → statement M
 is-busy-spec =
-    tie.close (tie.spec phase-of-requires is-resting-requires lowest-owed-requires returns)
+    tie.close (tie.spec phase-of-requires is-resting-requires returns)

@@ -30,15 +30,15 @@ returns : tie.Need-returns
 returns c = λ p co t s k.
     let args = c .before .before .before .before .before .before .before .args in
     let q = c .before .before .refusal .given .0 .0 in
-    let verdict = c .before .before .before .before .judge .ensures co t s (k .1) (chosen-seen s (k .0) (k .2) (args .mac) (c .before .before .before .before .before .chosen .ensures)) in
+    let verdict = c .before .before .before .before .judge .ensures co t s (chosen-seen s (k .0) (k .1) (args .mac) (c .before .before .before .before .before .chosen .ensures)) in
     makes-refusal p co t q (c .refusing .ensures) ∙
     sym (ap shows (join-refused co t (args .kind) (args .mac) (args .session) (s .fit) q (c .before .before .refusal .given .1) verdict))
 
 returns-2 : tie.Need-returns-2
 returns-2 c = λ p co t s k.
     let args = c .before .before .before .before .before .before .args in
-    let place = chosen-seen s (k .0) (k .2) (args .mac) (c .before .before .before .before .chosen .ensures) in
-    let rules = join-taken co t (args .kind) (args .mac) (args .session) (s .fit) (c .before .enum-told .given .1) (c .before .before .before .judge .ensures co t s (k .1) place) in
+    let place = chosen-seen s (k .0) (k .1) (args .mac) (c .before .before .before .before .chosen .ensures) in
+    let rules = join-taken co t (args .kind) (args .mac) (args .session) (s .fit) (c .before .enum-told .given .1) (c .before .before .before .judge .ensures co t s place) in
     join-made co t (args .kind) (args .mac) (args .session) rules p place (c .resting .ensures)
 
 pub join-spec : {M : Type 1} → statement M

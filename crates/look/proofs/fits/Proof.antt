@@ -10,8 +10,8 @@ phase-of-requires c κs = search needs
 setup-fits-requires : tie.Need-setup-fits-requires
 setup-fits-requires c κs = search needs
 
-are-apart-requires : tie.Need-are-apart-requires
-are-apart-requires c κs = search needs
+boards-fit-requires : tie.Need-boards-fit-requires
+boards-fit-requires c κs = search needs
 
 phase-fits-requires : tie.Need-phase-fits-requires
 phase-fits-requires c κs = search needs
@@ -29,7 +29,7 @@ fits-spec =
     (tie.spec
     phase-of-requires
     setup-fits-requires
-    are-apart-requires
+    boards-fit-requires
     phase-fits-requires
     seek-fits-requires
     returns)

@@ -20,8 +20,8 @@ returns-2 c = rw (c .before .before .before .before .record-fits .ensures, lt-lt
 element-write-kinds : tie.Need-element-write-kinds
 element-write-kinds c = search needs
 
-element-write-marks : tie.Need-element-write-marks
-element-write-marks c = search needs
+element-write-indexes : tie.Need-element-write-indexes
+element-write-indexes c = search needs
 
 mul-macs : tie.Need-mul-macs
 mul-macs c = search needs
@@ -32,9 +32,12 @@ element-write-macs c = search needs
 add-t14 : tie.Need-add-t14
 add-t14 c = search needs
 
+owed-first-requires : tie.Need-owed-first-requires
+owed-first-requires c κs = search needs
+
 returns-3 : tie.Need-returns-3
 unfolding choose
-returns-3 c = rw (c .before .before .before .before .record-fits .ensures, lt-ltb _ _ (c .before .before .if1 .left), ne-eqb _ _ (c .if2 .left)) refl
+returns-3 c = rw (c .before .before .before .before .before .record-fits .ensures, lt-ltb _ _ (c .before .before .before .if1 .left), ne-eqb _ _ (c .before .if2 .left), c .owed-first .ensures) refl
 
 pub note-spec : {M : Type 1} → statement M
 note-spec =
@@ -44,8 +47,9 @@ note-spec =
     returns
     returns-2
     element-write-kinds
-    element-write-marks
+    element-write-indexes
     mul-macs
     element-write-macs
     add-t14
+    owed-first-requires
     returns-3)

@@ -1,9 +1,8 @@
 -- `panel::nadrelgos_mark`: nodes where they stand. Written by tools/walks.
-use Rattle.place.proofs.Walking.{_≡_, refl, ap, ℕ, _-_, List, [], _∷_, length, URA, fullShare, named, w64, tyInt, tyStruct, tcons, tnil, Val, vint, SProp, ent, emp, via, fst∗, id⊢, GName, Lft, Share, Fml, ftrue, fat, flft, Memory, Routine, Heap, Calls, Loops, WpFn, Tables, Atoms, Fun, fact, givenOf, tables, tablesOf, Given, Item, ‵, raw, _⊛_, some, later, ⋆, _$_, _∵_, !, qed, by, move, keep, use1, use2, drop, split, join, pick, rewrite, fsplit, fjoin, feqL, suffices, frame, await, done, look, init, forget, stop, fld, from, load, addr, of-opd, and-then, no-more, land, assigns, returns, enter, alloc1, alloc0, params1, pass1, pass0, free1, free0, hop, agg, whole, sub, look-in, FmC, fmOf, WpFn-mono, owns, Is, shows′, mem, uint-makes, uint-vals, uint-tells, uint-lawful, Nothing, nothing-lawful, u64, usize, RefT, sliceVal, MutSlice, Room, slice-vals, finally, mut-slice-tells, plain, owned, nothing, peeks, heard, only, Contract, Triple, calls-at, ensured, lasts, onEntry, Meets, tripleOf, entered, cited, yes, says, Stays, stay-none, walkOf, AllGo, goes-none, Walks, ends-at, walked, walk-meets, gave-slice, goes-gave-slice}
+use Rattle.place.proofs.Walking.{_≡_, refl, ap, ℕ, _-_, List, [], _∷_, length, URA, fullShare, named, w64, tyInt, tyStruct, tcons, tnil, Val, vint, SProp, ent, emp, via, fst∗, id⊢, GName, Lft, Share, ftrue, fat, flft, Memory, Routine, Heap, Calls, Loops, WpFn, Tables, Atoms, Fun, fact, givenOf, tables, tablesOf, Given, ‵, raw, _⊛_, some, later, ⋆, _$_, _∵_, !, qed, by, move, keep, use1, use2, drop, split, join, pick, rewrite, fsplit, fjoin, feqL, suffices, frame, await, done, look, init, forget, stop, fld, from, load, addr, of-opd, and-then, no-more, land, assigns, returns, enter, alloc1, alloc0, params1, pass1, pass0, free1, free0, hop, agg, whole, sub, look-in, FmC, fmOf, WpFn-mono, owns, Is, shows′, mem, uint-makes, uint-vals, uint-tells, uint-lawful, Nothing, nothing-lawful, u64, usize, RefT, sliceVal, MutSlice, Room, slice-vals, finally, mut-slice-tells, plain, owned, nothing, peeks, heard, only, Contract, Triple, calls-at, ensured, lasts, onEntry, Meets, tripleOf, entered, cited, yes, says, Stays, stay-none, walkOf, AllGo, goes-none, Walks, ends-at, walked, walk-meets, gave-slice, goes-gave-slice}
 use denote.Struct.Laws as LL
 use denote.Enum.Laws as EL
 use Rattle.board.specs.declared.Node.{Node}
-use Rattle.change.specs.declared.Edit.{Edit}
 use Rattle.lent.specs.declared.Amendment.{Amendment}
 use Rattle.place.specs.Place.{editedBetween}
 use Rattle.change.specs.declared.Edit.the-variants.{Owed}
@@ -43,8 +42,11 @@ is-to r vs is = LL.owed S.the-type S′.the-laws r vs is .1 .0
 is-edit : (r : Amendment) (vs : List Val) → Is S.the-row r vs → Is E.the-row (r .edit) (EL.val E.the-type E′.the-laws (r .edit) ∷ [])
 is-edit r vs is = LL.owed S.the-type S′.the-laws r vs is .1 .1 .0
 
+is-all : (r : Amendment) (vs : List Val) → Is S.the-row r vs → Is usize (r .all) (vint w64 (r .all) ∷ [])
+is-all r vs is = LL.owed S.the-type S′.the-laws r vs is .1 .1 .1 .0
+
 is-answer : (r : Amendment) (vs : List Val) → Is S.the-row r vs → Is u64 (r .answer) (vint w64 (r .answer) ∷ [])
-is-answer r vs is = LL.owed S.the-type S′.the-laws r vs is .1 .1 .1 .0
+is-answer r vs is = LL.owed S.the-type S′.the-laws r vs is .1 .1 .1 .1 .0
 
 module _ {M : Type 1} (𝓤 : URA M) (H : Heap 𝓤) (A : Atoms 𝓤) (at-mem : Memory → SProp 𝓤) (run : Routine → Fun 𝓤) where
   -- the contracts that the proof cites
@@ -93,47 +95,11 @@ module _ {M : Type 1} (𝓤 : URA M) (H : Heap 𝓤) (A : Atoms 𝓤) (W : Given
       move ! (1 ∷ 0 ∷ []) $
       done !
 
-  abbrev pure-toks : Item 𝓤
-  pure-toks = ‵ ftrue
-
-  abbrev pure-args : ℕ × (ℕ × Unit {0})
-  pure-args = (length ys, (e0, tt))
-
-  abbrev pure-vals : List Val × (List Val × Unit {0})
-  pure-vals = (vint w64 (length ys) ∷ [], (vint w64 e0 ∷ [], tt))
-
-  abbrev pure-owns : Fml
-  pure-owns = owns (usize ∷ usize ∷ []) pure-args pure-vals
-
-  abbrev to-pure : Pure 𝓤 H A at-mem run .Ghost
-  to-pure = ((tt, tt, tt, pure-args, pure-vals), tt)
-
-  goes-pure : ent 𝓤 (⋆ 𝓤 H A (pure-toks ∷ ‵ (pure-owns) ∷ [])) (Pure 𝓤 H A at-mem run .pre (to-pure))
-  goes-pure = qed W (pure-toks ∷ ‵ (pure-owns) ∷ []) ∵ join ! $ frame ! $ done !
-
-  abbrev amend-toks : Item 𝓤
-  amend-toks = ‵ (flft κ₁ q₁) ⊛ ‵ ftrue
-
-  abbrev amend-args : Amendment → RefT (List Node) × (ℕ × (ℕ × (Edit × Unit {0})))
-  amend-args r = (x, (r .from, (r .to, (r .edit, tt))))
-
-  abbrev amend-vals : Amendment → List Val × (List Val × (List Val × (List Val × Unit {0})))
-  amend-vals r = (s₁ ∷ [], (vint w64 (r .from) ∷ [], (vint w64 (r .to) ∷ [], (EL.val E.the-type E′.the-laws (r .edit) ∷ [], tt))))
-
-  abbrev amend-owns : Amendment → Fml
-  amend-owns r = owns (MutSlice (named 0) κ₁ T.the-row ∷ usize ∷ usize ∷ E.the-row ∷ []) (amend-args r) (amend-vals r)
-
-  abbrev to-amend : Amendment → Amend 𝓤 H A at-mem run .Ghost
-  to-amend r = (((κ₁, tt), (q₁, tt), tt, amend-args r, amend-vals r), tt)
-
-  goes-amend : (r : Amendment) → ent 𝓤 (⋆ 𝓤 H A (amend-toks ∷ ‵ (amend-owns r) ∷ [])) (Amend 𝓤 H A at-mem run .pre (to-amend r))
-  goes-amend r = qed W (amend-toks ∷ ‵ (amend-owns r) ∷ []) ∵ join ! $ frame ! $ done !
-
   module _ (C : Calls 𝓤 H) (Λ : Loops 𝓤 H) (fm : FmC 𝓤 H (W .laws) C) (known-pure : Triple 𝓤 (C #lent·mark-edit) (Pure 𝓤 H A at-mem run)) (known-amend : Triple 𝓤 (C #place·amend) (Amend 𝓤 H A at-mem run)) where
     walk : ent 𝓤 (onEntry 𝓤 H A edit′.signature (κ₁, tt) (q₁, tt) a at) (WpFn 𝓤 H C Λ code.function args Post)
     walk =
         qed W ((‵ (flft κ₁ q₁) ⊛ ‵ ftrue) ∷ ‵ (owns (MutSlice (named 0) κ₁ T.the-row ∷ usize ∷ []) a at) ∷ []) ∵ enter ! C Λ code.function args _ $
-        alloc1 ! (λ l₀. alloc1 ! (λ l₁. alloc1 ! (λ l₂. alloc1 ! (λ l₃. alloc1 ! {τ = tyStruct (S.struct .name) (tcons (tyInt w64) (tcons (tyInt w64) (tcons E′.mir (tcons (tyInt w64) tnil))))} (λ l₄. alloc1 ! (λ l₅. alloc1 ! (λ l₆. alloc1 ! (λ l₇. alloc0 ! $ params1 ! $
+        alloc1 ! (λ l₀. alloc1 ! (λ l₁. alloc1 ! (λ l₂. alloc1 ! (λ l₃. alloc1 ! {τ = tyStruct (S.struct .name) (tcons (tyInt w64) (tcons (tyInt w64) (tcons E′.mir (tcons (tyInt w64) (tcons (tyInt w64) tnil)))))} (λ l₄. alloc1 ! (λ l₅. alloc1 ! (λ l₆. alloc1 ! (λ l₇. alloc0 ! $ params1 ! $
         pass1 ! (init ! 12 refl (tt, (tt, (record { fits = room₁ .0 }, tt)))) $ pass1 ! (init ! 10 refl (uint-lawful 𝓤 H A W w64 .typed e0 _ is0 .0)) $ pass0 ! $
         move ! (17 ∷ []) $ fsplit ! $
         move ! (1 ∷ []) $ fsplit ! $
@@ -149,20 +115,20 @@ module _ {M : Type 1} (𝓤 : URA M) (H : Heap 𝓤) (A : Atoms 𝓤) (W : Given
         owned ! usize (Is usize) (uint-makes 𝓤 H A W w64) (length ys) _ (refl, room₁ .0) $
         fjoin ! $
         nothing ! $
-        use2 W (raw (Pure 𝓤 H A at-mem run .pre to-pure)) goes-pure $
-        calls-at ! fm (Pure 𝓤 H A at-mem run) known-pure to-pure (and-then ! (load ! (from ! (stop !)) (look ! 11 refl)) (and-then ! (load ! (from ! (stop !)) (look ! 13 refl)) (no-more !))) (λ u.
-        use1 W (later (some (λ (r : Amendment). (pure-toks ⊛ ‵ (S.the-row .own r (u ∷ []))) ⊛ raw (ensured 𝓤 H A pure.ended (pure.clauses 𝓤 H A at-mem run) tt pure-args tt r)))) (id⊢ 𝓤 _) $ await ! tt $ pick ! (λ r. split ! $
-        move ! (1 ∷ []) $ use1 W (some (λ (us : Unit {0} × (Unit {0} × Unit {0})). ‵ (lasts pure.ended tt pure-args us) ⊛ raw (fact 𝓤 (r ≡ amending (length ys) e0 Owed)))) (id⊢ 𝓤 _) $ pick ! (λ us. split ! $
+        use2 W (raw (Pure 𝓤 H A at-mem run .pre ((tt, tt, tt, (length ys, (e0, tt)), (vint w64 (length ys) ∷ [], (vint w64 e0 ∷ [], tt))), tt))) (qed W (‵ ftrue ∷ ‵ (owns (usize ∷ usize ∷ []) (length ys, (e0, tt)) (vint w64 (length ys) ∷ [], (vint w64 e0 ∷ [], tt))) ∷ []) ∵ join ! $ frame ! $ done !) $
+        calls-at ! fm (Pure 𝓤 H A at-mem run) known-pure ((tt, tt, tt, (length ys, (e0, tt)), (vint w64 (length ys) ∷ [], (vint w64 e0 ∷ [], tt))), tt) (and-then ! (load ! (from ! (stop !)) (look ! 11 refl)) (and-then ! (load ! (from ! (stop !)) (look ! 13 refl)) (no-more !))) (λ u.
+        use1 W (later (some (λ (r : Amendment). (‵ ftrue ⊛ ‵ (S.the-row .own r (u ∷ []))) ⊛ raw (ensured 𝓤 H A pure.ended (pure.clauses 𝓤 H A at-mem run) tt (length ys, (e0, tt)) tt r)))) (id⊢ 𝓤 _) $ await ! tt $ pick ! (λ r. split ! $
+        move ! (1 ∷ []) $ use1 W (some (λ (ws : Unit {0} × (Unit {0} × Unit {0})). ‵ (lasts pure.ended tt (length ys, (e0, tt)) ws) ⊛ raw (fact 𝓤 (r ≡ amending (length ys) e0 Owed)))) (id⊢ 𝓤 _) $ pick ! (λ ws. split ! $
         move ! (1 ∷ []) $ heard ! (r ≡ amending (length ys) e0 Owed) (λ er.
         drop ! $
         split ! $
         move ! (1 ∷ []) $ peeks ! S.the-row (Is S.the-row) (shows′ 𝓤 H A S.the-row) r (u ∷ []) (λ isr. drop ! $
         drop ! $
         land ! (from ! (stop !)) (init ! 8 refl (LL.lawful S.the-type S′.the-laws 𝓤 H A W .typed r _ isr .0)) $
-        rewrite ! 8 (λ (y : Val). ‵ (fat fullShare (tyStruct (S.struct .name) (tcons (tyInt w64) (tcons (tyInt w64) (tcons E′.mir (tcons (tyInt w64) tnil))))) l₄ 0 y)) (ap only (LL.tells S.the-type S′.the-laws r _ isr)) refl $
+        rewrite ! 8 (λ (y : Val). ‵ (fat fullShare (tyStruct (S.struct .name) (tcons (tyInt w64) (tcons (tyInt w64) (tcons E′.mir (tcons (tyInt w64) (tcons (tyInt w64) tnil)))))) l₄ 0 y)) (ap only (LL.tells S.the-type S′.the-laws r _ isr)) refl $
+        -- `amend`: the nodes are given to it for good
         assigns ! (addr ! (from ! (fld ! refl (hop ! (look-in ! 14 (sub ! 0 refl (whole !))) (stop !))))) (from ! (stop !)) (init ! 4 refl (tt, tt)) $
         assigns ! (agg ! (and-then ! (load ! (from ! (stop !)) (look ! 4 refl)) (and-then ! (load ! (from ! (fld ! refl (stop !))) (look-in ! 14 (sub ! 1 refl (whole !)))) (no-more !)))) (from ! (stop !)) (init ! 2 refl (tt, (tt, (record { fits = room₁ .0 }, tt)))) $
-        -- `amend`: the nodes are given to it for good
         nothing ! $
         owned ! E.the-row (Is E.the-row) ((EL.makes E.the-type E′.the-plain) 𝓤 H A) (r .edit) _ (is-edit r _ isr) $
         fjoin ! $
@@ -173,10 +139,10 @@ module _ {M : Type 1} (𝓤 : URA M) (H : Heap 𝓤) (A : Atoms 𝓤) (W : Given
         move ! (2 ∷ 0 ∷ []) $ fjoin ! $
         nothing ! $
         move ! (2 ∷ 0 ∷ []) $ join ! $
-        use2 W (raw (Amend 𝓤 H A at-mem run .pre (to-amend r))) (goes-amend r) $
-        calls-at ! fm (Amend 𝓤 H A at-mem run) known-amend (to-amend r) (and-then ! (load ! (from ! (stop !)) (look ! 1 refl)) (and-then ! (load ! (from ! (fld ! refl (stop !))) (look-in ! 7 (sub ! 0 refl (whole !)))) (and-then ! (load ! (from ! (fld ! refl (stop !))) (look-in ! 7 (sub ! 1 refl (whole !)))) (and-then ! (load ! (from ! (fld ! refl (stop !))) (look-in ! 7 (sub ! 2 refl (whole !)))) (no-more !))))) (λ z.
-        use1 W (later (some (λ (j : Unit {0}). (amend-toks ⊛ ‵ (Nothing .own j (z ∷ []))) ⊛ raw (ensured 𝓤 H A amend′.ended (amend′.clauses 𝓤 H A at-mem run) (κ₁, tt) (amend-args r) tt j)))) (id⊢ 𝓤 _) $ await ! tt $ pick ! (λ j. split ! $
-        move ! (1 ∷ []) $ use1 W (some (λ (zs : List Node × (Unit {0} × (Unit {0} × (Unit {0} × Unit {0})))). ‵ (lasts amend′.ended (κ₁, tt) (amend-args r) zs) ⊛ raw (fact 𝓤 (zs .0 ≡ editedBetween ys (r .from) (r .to) (r .edit))))) (id⊢ 𝓤 _) $ pick ! (λ zs. split ! $
+        use2 W (raw (Amend 𝓤 H A at-mem run .pre (((κ₁, tt), (q₁, tt), tt, (x, (r .from, (r .to, (r .edit, tt)))), (s₁ ∷ [], (vint w64 (r .from) ∷ [], (vint w64 (r .to) ∷ [], (EL.val E.the-type E′.the-laws (r .edit) ∷ [], tt))))), tt))) (qed W ((‵ (flft κ₁ q₁) ⊛ ‵ ftrue) ∷ ‵ (owns (MutSlice (named 0) κ₁ T.the-row ∷ usize ∷ usize ∷ E.the-row ∷ []) (x, (r .from, (r .to, (r .edit, tt)))) (s₁ ∷ [], (vint w64 (r .from) ∷ [], (vint w64 (r .to) ∷ [], (EL.val E.the-type E′.the-laws (r .edit) ∷ [], tt))))) ∷ []) ∵ join ! $ frame ! $ done !) $
+        calls-at ! fm (Amend 𝓤 H A at-mem run) known-amend (((κ₁, tt), (q₁, tt), tt, (x, (r .from, (r .to, (r .edit, tt)))), (s₁ ∷ [], (vint w64 (r .from) ∷ [], (vint w64 (r .to) ∷ [], (EL.val E.the-type E′.the-laws (r .edit) ∷ [], tt))))), tt) (and-then ! (load ! (from ! (stop !)) (look ! 1 refl)) (and-then ! (load ! (from ! (fld ! refl (stop !))) (look-in ! 7 (sub ! 0 refl (whole !)))) (and-then ! (load ! (from ! (fld ! refl (stop !))) (look-in ! 7 (sub ! 1 refl (whole !)))) (and-then ! (load ! (from ! (fld ! refl (stop !))) (look-in ! 7 (sub ! 2 refl (whole !)))) (no-more !))))) (λ z.
+        use1 W (later (some (λ (j : Unit {0}). ((‵ (flft κ₁ q₁) ⊛ ‵ ftrue) ⊛ ‵ (Nothing .own j (z ∷ []))) ⊛ raw (ensured 𝓤 H A amend′.ended (amend′.clauses 𝓤 H A at-mem run) (κ₁, tt) (x, (r .from, (r .to, (r .edit, tt)))) tt j)))) (id⊢ 𝓤 _) $ await ! tt $ pick ! (λ j. split ! $
+        move ! (1 ∷ []) $ use1 W (some (λ (zs : List Node × (Unit {0} × (Unit {0} × (Unit {0} × Unit {0})))). ‵ (lasts amend′.ended (κ₁, tt) (x, (r .from, (r .to, (r .edit, tt)))) zs) ⊛ raw (fact 𝓤 (zs .0 ≡ editedBetween ys (r .from) (r .to) (r .edit))))) (id⊢ 𝓤 _) $ pick ! (λ zs. split ! $
         move ! (1 ∷ []) $ heard ! (zs .0 ≡ editedBetween ys (r .from) (r .to) (r .edit)) (λ ez.
         fsplit ! $
         fsplit ! $
@@ -187,11 +153,11 @@ module _ {M : Type 1} (𝓤 : URA M) (H : Heap 𝓤) (A : Atoms 𝓤) (W : Given
         split ! $
         move ! (1 ∷ []) $ drop ! $
         land ! (from ! (stop !)) (init ! 6 refl (nothing-lawful 𝓤 H A W .typed j _ isj .0)) $
-        assigns ! (of-opd ! (load ! (from ! (fld ! refl (stop !))) (look-in ! 8 (sub ! 3 refl (whole !))))) (from ! (stop !)) (init ! 16 refl (uint-lawful 𝓤 H A W w64 .typed (r .answer) _ (is-answer r _ isr) .0)) $
+        assigns ! (of-opd ! (load ! (from ! (fld ! refl (stop !))) (look-in ! 8 (sub ! 4 refl (whole !))))) (from ! (stop !)) (init ! 16 refl (uint-lawful 𝓤 H A W w64 .typed (r .answer) _ (is-answer r _ isr) .0)) $
         returns ! (look ! 16 refl) $ forget ! 16 refl $ forget ! 14 refl $ forget ! 12 refl $ forget ! 10 refl $ forget ! 8 refl $ forget ! 6 refl $ forget ! 4 refl $ forget ! 2 refl $
         move ! (16 ∷ 17 ∷ []) $ free1 ! $ move ! (14 ∷ 15 ∷ []) $ free1 ! $ move ! (12 ∷ 13 ∷ []) $ free1 ! $ move ! (10 ∷ 11 ∷ []) $ free1 ! $ move ! (8 ∷ 9 ∷ []) $ free1 ! $ move ! (6 ∷ 7 ∷ []) $ free1 ! $ move ! (4 ∷ 5 ∷ []) $ free1 ! $ move ! (2 ∷ 3 ∷ []) $ free1 ! $ free0 ! $
         keep ! (0 ∷ 1 ∷ []) $
-        by ! (exits r (zs .0) lz (amend-in-place ys (zs .0) e0 Owed r er ez) (is-answer r _ isr)))))))))))))))))))))
+        by ! (exits r (zs .0) lz (amend-in-place ys (zs .0) e0 Owed r ez er) (is-answer r _ isr)))))))))))))))))))))
 
 module _ {M : Type 1} (𝓤 : URA M) (H : Heap 𝓤) (A : Atoms 𝓤) (W : Given 𝓤 H A) (at-mem : Memory → SProp 𝓤) (run : Routine → Fun 𝓤) where
   walks : (C : Calls 𝓤 H) (Λ : Loops 𝓤 H) → FmC 𝓤 H (W .laws) C → Triple 𝓤 (C #lent·mark-edit) (Pure 𝓤 H A at-mem run) → Triple 𝓤 (C #place·amend) (Amend 𝓤 H A at-mem run)

@@ -1,10 +1,9 @@
 -- `panel::setup`: coordinator and nodes where they stand. Written by tools/walks.
-use Rattle.place.proofs.Walking.{_≡_, refl, ap, ℕ, _<_, _-_, List, [], _∷_, lit<, length, URA, fullShare, named, w8, w64, tyInt, tyStruct, tcons, tnil, Val, vint, vptr, SProp, ent, emp, via, fst∗, id⊢, GName, Lft, Share, Fml, ftrue, fat, flft, fobs, fbor, Memory, Routine, Heap, Calls, Loops, WpFn, Tables, Atoms, Fun, fact, givenOf, tables, tablesOf, Given, Item, ‵, raw, _⊛_, some, later, ⋆, _$_, _∵_, !, qed, by, move, keep, use1, use2, drop, split, join, pick, rewrite, fsplit, fjoin, feqL, suffices, frame, await, done, fsplit3, fjoin3, feqI, look, init, forget, stop, fld, from, load, lit, addr, of-opd, and-then, no-more, land, assigns, returns, enter, alloc1, alloc0, params1, pass1, pass0, free1, free0, hop, store, agg, whole, sub, look-in, Body, FmC, fmOf, WpFn-mono, owns, Is, shows′, cellAt, mem, uint-makes, uint-vals, uint-tells, uint-lawful, Nothing, nothing-lawful, u8, u64, usize, RefT, MutRef, ptr-vals, mut-tells, sliceVal, MutSlice, ShrSlice, Room, slice-vals, shr-slice-tells, shr-slice-copy, finally, mut-slice-tells, plain, owned, nothing, peeks, heard, only, opens, closes, spelt, Contract, Triple, calls-at, ensured, lasts, onEntry, Meets, tripleOf, entered, cited, yes, says, Stays, stay-none, stay-none-slice, walkOf, AllGo, goes-none, goes-none-slice, Walks, ends-at, walked, walk-meets, gave-slice, goes-gave-slice, stay-ref, goes-ref}
+use Rattle.place.proofs.Walking.{_≡_, refl, ap, ℕ, _<_, _-_, List, [], _∷_, lit<, length, URA, fullShare, named, w8, w64, tyInt, tyStruct, tcons, tnil, Val, vint, vptr, SProp, ent, emp, via, fst∗, id⊢, GName, Lft, Share, ftrue, fat, flft, fobs, fbor, Memory, Routine, Heap, Calls, Loops, WpFn, Tables, Atoms, Fun, fact, givenOf, tables, tablesOf, Given, ‵, raw, _⊛_, some, later, ⋆, _$_, _∵_, !, qed, by, move, keep, use1, use2, drop, split, join, pick, rewrite, fsplit, fjoin, feqL, suffices, frame, await, done, fsplit3, fjoin3, feqI, look, init, forget, stop, fld, from, load, lit, addr, of-opd, and-then, no-more, land, assigns, returns, enter, alloc1, alloc0, params1, pass1, pass0, free1, free0, hop, store, agg, whole, sub, look-in, Body, FmC, fmOf, WpFn-mono, owns, Is, shows′, cellAt, mem, uint-makes, uint-vals, uint-tells, uint-lawful, Nothing, nothing-lawful, u8, u64, usize, RefT, MutRef, ptr-vals, mut-tells, sliceVal, MutSlice, ShrSlice, Room, slice-vals, shr-slice-tells, shr-slice-copy, finally, mut-slice-tells, plain, owned, nothing, peeks, heard, only, opens, closes, spelt, Contract, Triple, calls-at, ensured, lasts, onEntry, Meets, tripleOf, entered, cited, yes, says, Stays, stay-none, stay-none-slice, walkOf, AllGo, goes-none, goes-none-slice, Walks, ends-at, walked, walk-meets, gave-slice, goes-gave-slice, stay-ref, goes-ref}
 use denote.Struct.Laws as LL
 use denote.Enum.Laws as EL
 use Rattle.board.specs.declared.Node.{Node}
 use Rattle.coordinator.specs.declared.Coordinator.{Coordinator}
-use Rattle.change.specs.declared.Edit.{Edit}
 use Rattle.start.specs.declared.Begun.{Begun}
 use Rattle.place.specs.Place.{editedBetween}
 use Rattle.steps.specs.After.{shows}
@@ -125,42 +124,6 @@ module _ {M : Type 1} (𝓤 : URA M) (H : Heap 𝓤) (A : Atoms 𝓤) (W : Given
       move ! (1 ∷ 0 ∷ []) $
       done !
 
-  abbrev pure-toks : Item 𝓤
-  pure-toks = ‵ (flft κb0 qb0) ⊛ ‵ ftrue
-
-  abbrev pure-args : Coordinator × (ℕ × (RefT (List ℕ) × (ℕ × (ℕ × (ℕ × (ℕ × Unit {0}))))))
-  pure-args = (h, (length ys, (rb0, (e1, (e2, (e3, (e4, tt)))))))
-
-  abbrev pure-vals : List Val × (List Val × (List Val × (List Val × (List Val × (List Val × (List Val × Unit {0}))))))
-  pure-vals = (coord h ∷ [], (vint w64 (length ys) ∷ [], (sb0 ∷ [], (vint w8 e1 ∷ [], (vint w8 e2 ∷ [], (vint w64 e3 ∷ [], (vint w64 e4 ∷ [], tt)))))))
-
-  abbrev pure-owns : Fml
-  pure-owns = owns (K.the-row ∷ usize ∷ ShrSlice (named 2) κb0 u8 ∷ u8 ∷ u8 ∷ u64 ∷ u64 ∷ []) pure-args pure-vals
-
-  abbrev to-pure : Pure 𝓤 H A at-mem run .Ghost
-  to-pure = (((κb0, tt), (qb0, tt), tt, pure-args, pure-vals), tt)
-
-  goes-pure : ent 𝓤 (⋆ 𝓤 H A (pure-toks ∷ ‵ (pure-owns) ∷ [])) (Pure 𝓤 H A at-mem run .pre (to-pure))
-  goes-pure = qed W (pure-toks ∷ ‵ (pure-owns) ∷ []) ∵ join ! $ frame ! $ done !
-
-  abbrev amend-toks : Item 𝓤
-  amend-toks = ‵ (flft κ₁ q₁) ⊛ ‵ ftrue
-
-  abbrev amend-args : Begun → RefT (List Node) × (ℕ × (ℕ × (Edit × Unit {0})))
-  amend-args r = (x, (0, (r .clear, (Cleared, tt))))
-
-  abbrev amend-vals : Begun → List Val × (List Val × (List Val × (List Val × Unit {0})))
-  amend-vals r = (s₁ ∷ [], (vint w64 0 ∷ [], (vint w64 (r .clear) ∷ [], (EL.val E.the-type E′.the-laws Cleared ∷ [], tt))))
-
-  abbrev amend-owns : Begun → Fml
-  amend-owns r = owns (MutSlice (named 1) κ₁ T.the-row ∷ usize ∷ usize ∷ E.the-row ∷ []) (amend-args r) (amend-vals r)
-
-  abbrev to-amend : Begun → Amend 𝓤 H A at-mem run .Ghost
-  to-amend r = (((κ₁, tt), (q₁, tt), tt, amend-args r, amend-vals r), tt)
-
-  goes-amend : (r : Begun) → ent 𝓤 (⋆ 𝓤 H A (amend-toks ∷ ‵ (amend-owns r) ∷ [])) (Amend 𝓤 H A at-mem run .pre (to-amend r))
-  goes-amend r = qed W (amend-toks ∷ ‵ (amend-owns r) ∷ []) ∵ join ! $ frame ! $ done !
-
   module _ (C : Calls 𝓤 H) (Λ : Loops 𝓤 H) (fm : FmC 𝓤 H (W .laws) C) (known-pure : Triple 𝓤 (C #start·begin) (Pure 𝓤 H A at-mem run)) (known-amend : Triple 𝓤 (C #place·amend) (Amend 𝓤 H A at-mem run)) where
     walk : ent 𝓤 (onEntry 𝓤 H A edit′.signature (κ₀, (κ₁, (κb0, tt))) (q₀, (q₁, (qb0, tt))) a at) (WpFn 𝓤 H C Λ code.function args Post)
     walk =
@@ -210,10 +173,10 @@ module _ {M : Type 1} (𝓤 : URA M) (H : Heap 𝓤) (A : Atoms 𝓤) (W : Given
         fjoin ! $
         nothing ! $
         move ! (7 ∷ 0 ∷ []) $ join ! $
-        use2 W (raw (Pure 𝓤 H A at-mem run .pre to-pure)) goes-pure $
-        calls-at ! fm (Pure 𝓤 H A at-mem run) known-pure to-pure (and-then ! (load ! (from ! (stop !)) (look ! 16 refl)) (and-then ! (load ! (from ! (stop !)) (look ! 20 refl)) (and-then ! (load ! (from ! (stop !)) (look ! 30 refl)) (and-then ! (load ! (from ! (stop !)) (look ! 28 refl)) (and-then ! (load ! (from ! (stop !)) (look ! 26 refl)) (and-then ! (load ! (from ! (stop !)) (look ! 24 refl)) (and-then ! (load ! (from ! (stop !)) (look ! 22 refl)) (no-more !)))))))) (λ u.
-        use1 W (later (some (λ (r : Begun). (pure-toks ⊛ ‵ (S.the-row .own r (u ∷ []))) ⊛ raw (ensured 𝓤 H A pure.ended (pure.clauses 𝓤 H A at-mem run) (κb0, tt) pure-args tt r)))) (id⊢ 𝓤 _) $ await ! tt $ pick ! (λ r. split ! $
-        move ! (1 ∷ []) $ use1 W (some (λ (us : Unit {0} × (Unit {0} × (Unit {0} × (Unit {0} × (Unit {0} × (Unit {0} × (Unit {0} × Unit {0}))))))). ‵ (lasts pure.ended (κb0, tt) pure-args us) ⊛ raw (fact 𝓤 (r ≡ beginOf h (length ys) xs0 e1 e2 e3 e4)))) (id⊢ 𝓤 _) $ pick ! (λ us. split ! $
+        use2 W (raw (Pure 𝓤 H A at-mem run .pre (((κb0, tt), (qb0, tt), tt, (h, (length ys, (rb0, (e1, (e2, (e3, (e4, tt))))))), (coord h ∷ [], (vint w64 (length ys) ∷ [], (sb0 ∷ [], (vint w8 e1 ∷ [], (vint w8 e2 ∷ [], (vint w64 e3 ∷ [], (vint w64 e4 ∷ [], tt)))))))), tt))) (qed W ((‵ (flft κb0 qb0) ⊛ ‵ ftrue) ∷ ‵ (owns (K.the-row ∷ usize ∷ ShrSlice (named 0) κb0 u8 ∷ u8 ∷ u8 ∷ u64 ∷ u64 ∷ []) (h, (length ys, (rb0, (e1, (e2, (e3, (e4, tt))))))) (coord h ∷ [], (vint w64 (length ys) ∷ [], (sb0 ∷ [], (vint w8 e1 ∷ [], (vint w8 e2 ∷ [], (vint w64 e3 ∷ [], (vint w64 e4 ∷ [], tt)))))))) ∷ []) ∵ join ! $ frame ! $ done !) $
+        calls-at ! fm (Pure 𝓤 H A at-mem run) known-pure (((κb0, tt), (qb0, tt), tt, (h, (length ys, (rb0, (e1, (e2, (e3, (e4, tt))))))), (coord h ∷ [], (vint w64 (length ys) ∷ [], (sb0 ∷ [], (vint w8 e1 ∷ [], (vint w8 e2 ∷ [], (vint w64 e3 ∷ [], (vint w64 e4 ∷ [], tt)))))))), tt) (and-then ! (load ! (from ! (stop !)) (look ! 16 refl)) (and-then ! (load ! (from ! (stop !)) (look ! 20 refl)) (and-then ! (load ! (from ! (stop !)) (look ! 30 refl)) (and-then ! (load ! (from ! (stop !)) (look ! 28 refl)) (and-then ! (load ! (from ! (stop !)) (look ! 26 refl)) (and-then ! (load ! (from ! (stop !)) (look ! 24 refl)) (and-then ! (load ! (from ! (stop !)) (look ! 22 refl)) (no-more !)))))))) (λ u.
+        use1 W (later (some (λ (r : Begun). ((‵ (flft κb0 qb0) ⊛ ‵ ftrue) ⊛ ‵ (S.the-row .own r (u ∷ []))) ⊛ raw (ensured 𝓤 H A pure.ended (pure.clauses 𝓤 H A at-mem run) (κb0, tt) (h, (length ys, (rb0, (e1, (e2, (e3, (e4, tt))))))) tt r)))) (id⊢ 𝓤 _) $ await ! tt $ pick ! (λ r. split ! $
+        move ! (1 ∷ []) $ use1 W (some (λ (ws : Unit {0} × (Unit {0} × (Unit {0} × (Unit {0} × (Unit {0} × (Unit {0} × (Unit {0} × Unit {0}))))))). ‵ (lasts pure.ended (κb0, tt) (h, (length ys, (rb0, (e1, (e2, (e3, (e4, tt))))))) ws) ⊛ raw (fact 𝓤 (r ≡ beginOf h (length ys) xs0 e1 e2 e3 e4)))) (id⊢ 𝓤 _) $ pick ! (λ ws. split ! $
         move ! (1 ∷ []) $ heard ! (r ≡ beginOf h (length ys) xs0 e1 e2 e3 e4) (λ er.
         drop ! $
         split ! $
@@ -222,10 +185,10 @@ module _ {M : Type 1} (𝓤 : URA M) (H : Heap 𝓤) (A : Atoms 𝓤) (W : Given
         move ! (1 ∷ []) $ drop ! $
         land ! (from ! (stop !)) (init ! 18 refl (LL.lawful S.the-type S′.the-laws 𝓤 H A W .typed r _ isr .0)) $
         rewrite ! 18 (λ (y : Val). ‵ (fat fullShare (tyStruct (S.struct .name) (tcons K′.mir (tcons (tyInt w64) (tcons An′.mir tnil)))) l₉ 0 y)) (ap only (LL.tells S.the-type S′.the-laws r _ isr)) refl $
+        -- `amend`: the nodes are given to it for good
         assigns ! (addr ! (from ! (fld ! refl (hop ! (look-in ! 32 (sub ! 0 refl (whole !))) (stop !))))) (from ! (stop !)) (init ! 12 refl (tt, tt)) $
         assigns ! (agg ! (and-then ! (load ! (from ! (stop !)) (look ! 12 refl)) (and-then ! (load ! (from ! (fld ! refl (stop !))) (look-in ! 32 (sub ! 1 refl (whole !)))) (no-more !)))) (from ! (stop !)) (init ! 10 refl (tt, (tt, (record { fits = room₁ .0 }, tt)))) $
         assigns ! (agg ! (and-then ! (lit ! tt) (no-more !))) (from ! (stop !)) (init ! 8 refl (EL.lawful E.the-type E′.the-laws 𝓤 H A W tt .typed Cleared _ is-edit .0)) $
-        -- `amend`: the nodes are given to it for good
         nothing ! $
         owned ! E.the-row (Is E.the-row) ((EL.makes E.the-type E′.the-plain) 𝓤 H A) Cleared _ is-edit $
         fjoin ! $
@@ -236,10 +199,10 @@ module _ {M : Type 1} (𝓤 : URA M) (H : Heap 𝓤) (A : Atoms 𝓤) (W : Given
         move ! (8 ∷ 0 ∷ []) $ fjoin ! $
         nothing ! $
         move ! (8 ∷ 0 ∷ []) $ join ! $
-        use2 W (raw (Amend 𝓤 H A at-mem run .pre (to-amend r))) (goes-amend r) $
-        calls-at ! fm (Amend 𝓤 H A at-mem run) known-amend (to-amend r) (and-then ! (load ! (from ! (stop !)) (look ! 9 refl)) (and-then ! (lit ! tt) (and-then ! (load ! (from ! (fld ! refl (stop !))) (look-in ! 17 (sub ! 1 refl (whole !)))) (and-then ! (load ! (from ! (stop !)) (look ! 7 refl)) (no-more !))))) (λ z.
-        use1 W (later (some (λ (j : Unit {0}). (amend-toks ⊛ ‵ (Nothing .own j (z ∷ []))) ⊛ raw (ensured 𝓤 H A amend′.ended (amend′.clauses 𝓤 H A at-mem run) (κ₁, tt) (amend-args r) tt j)))) (id⊢ 𝓤 _) $ await ! tt $ pick ! (λ j. split ! $
-        move ! (1 ∷ []) $ use1 W (some (λ (zs : List Node × (Unit {0} × (Unit {0} × (Unit {0} × Unit {0})))). ‵ (lasts amend′.ended (κ₁, tt) (amend-args r) zs) ⊛ raw (fact 𝓤 (zs .0 ≡ editedBetween ys 0 (r .clear) Cleared)))) (id⊢ 𝓤 _) $ pick ! (λ zs. split ! $
+        use2 W (raw (Amend 𝓤 H A at-mem run .pre (((κ₁, tt), (q₁, tt), tt, (x, (0, (r .clear, (Cleared, tt)))), (s₁ ∷ [], (vint w64 0 ∷ [], (vint w64 (r .clear) ∷ [], (EL.val E.the-type E′.the-laws Cleared ∷ [], tt))))), tt))) (qed W ((‵ (flft κ₁ q₁) ⊛ ‵ ftrue) ∷ ‵ (owns (MutSlice (named 0) κ₁ T.the-row ∷ usize ∷ usize ∷ E.the-row ∷ []) (x, (0, (r .clear, (Cleared, tt)))) (s₁ ∷ [], (vint w64 0 ∷ [], (vint w64 (r .clear) ∷ [], (EL.val E.the-type E′.the-laws Cleared ∷ [], tt))))) ∷ []) ∵ join ! $ frame ! $ done !) $
+        calls-at ! fm (Amend 𝓤 H A at-mem run) known-amend (((κ₁, tt), (q₁, tt), tt, (x, (0, (r .clear, (Cleared, tt)))), (s₁ ∷ [], (vint w64 0 ∷ [], (vint w64 (r .clear) ∷ [], (EL.val E.the-type E′.the-laws Cleared ∷ [], tt))))), tt) (and-then ! (load ! (from ! (stop !)) (look ! 9 refl)) (and-then ! (lit ! tt) (and-then ! (load ! (from ! (fld ! refl (stop !))) (look-in ! 17 (sub ! 1 refl (whole !)))) (and-then ! (load ! (from ! (stop !)) (look ! 7 refl)) (no-more !))))) (λ z.
+        use1 W (later (some (λ (j : Unit {0}). ((‵ (flft κ₁ q₁) ⊛ ‵ ftrue) ⊛ ‵ (Nothing .own j (z ∷ []))) ⊛ raw (ensured 𝓤 H A amend′.ended (amend′.clauses 𝓤 H A at-mem run) (κ₁, tt) (x, (0, (r .clear, (Cleared, tt)))) tt j)))) (id⊢ 𝓤 _) $ await ! tt $ pick ! (λ j. split ! $
+        move ! (1 ∷ []) $ use1 W (some (λ (zs : List Node × (Unit {0} × (Unit {0} × (Unit {0} × Unit {0})))). ‵ (lasts amend′.ended (κ₁, tt) (x, (0, (r .clear, (Cleared, tt)))) zs) ⊛ raw (fact 𝓤 (zs .0 ≡ editedBetween ys 0 (r .clear) Cleared)))) (id⊢ 𝓤 _) $ pick ! (λ zs. split ! $
         move ! (1 ∷ []) $ heard ! (zs .0 ≡ editedBetween ys 0 (r .clear) Cleared) (λ ez.
         fsplit ! $
         fsplit ! $

@@ -7,7 +7,7 @@ use Rattle.look.specs.Digest.{Digested, digested, dg, noted, digestTo, digestAl
 use Rattle.look.specs.declared.Digest.{Digest}
 use Rattle.look.proofs.Digest as Di
 use Rattle.look.proofs.Digest.Laws as Di′
-use Rattle.look.proofs.Digests.{noted-below, digest-more, digest-none, top-small}
+use Rattle.look.proofs.Digests.{noted-below, digest-more, digest-none, top-small, owed-small}
 use Rattle.place.proofs.Turns.{Turn, Nearer, nearer-wf, less, next, next-nearer, within, small, next-fits, off-fits, at-end}
 use Rattle.board.proofs.Node as T
 use Rattle.board.proofs.Node.Laws as T′
@@ -40,8 +40,8 @@ stayed = (stay-none (λ _. usize) yes, (stay-none-slice (0 ∷ []) tt (plain (λ
 abbrev dv : Digest → Val
 dv = LL.val Di.the-type Di′.the-laws
 
-is-digest : (d : Digest) → d .top < 2 ^ 64 → Is Di.the-row d (dv d ∷ [])
-is-digest d h = LL.owes Di.the-type Di′.the-laws d (refl, ((refl, h), tt))
+is-digest : (d : Digest) → d .top < 2 ^ 64 → d .owed < 2 ^ 64 → Is Di.the-row d (dv d ∷ [])
+is-digest d h g = LL.owes Di.the-type Di′.the-laws d (refl, ((refl, h), ((refl, g), tt)))
 
 module _ {M : Type 1} (𝓤 : URA M) (H : Heap 𝓤) (A : Atoms 𝓤) (mem : Memory → SProp 𝓤) (run : Routine → Fun 𝓤) where
   -- the contracts that the proof cites
@@ -54,7 +54,7 @@ module _ {M : Type 1} (𝓤 : URA M) (H : Heap 𝓤) (A : Atoms 𝓤) (mem : Mem
   least-of : (n r : ℕ) → ent 𝓤 (ensured 𝓤 H A least.ended (least.clauses 𝓤 H A mem run) tt (n, (40, tt)) tt r) (fact 𝓤 (r ≡ min n 40))
   least-of n r = exE 𝓤 _ (λ ws. snd∗ 𝓤 (sem 𝓤 H A (lasts least.ended tt (n, (40, tt)) ws)) (fact 𝓤 (r ≡ min n 40)))
 
-module _ {M : Type 1} (𝓤 : URA M) (H : Heap 𝓤) (A : Atoms 𝓤) (W : Given 𝓤 H A) (mem : Memory → SProp 𝓤) (run : Routine → Fun 𝓤) (κ κ₁ κ₂ κ₃ : Lft) (q q₁ q₂ q₃ : Share) (k : ℕ) (b o : ℕ) (γ : GName) (ys : List Node) (b₁ o₁ : ℕ) (γ₁ : GName) (ks : List ℕ) (b₂ o₂ : ℕ) (γ₂ : GName) (os : List ℕ) (b₃ o₃ : ℕ) (γ₃ : GName) (ms : List ℕ)
+module _ {M : Type 1} (𝓤 : URA M) (H : Heap 𝓤) (A : Atoms 𝓤) (W : Given 𝓤 H A) (mem : Memory → SProp 𝓤) (run : Routine → Fun 𝓤) (κ κ₁ κ₂ κ₃ : Lft) (q q₁ q₂ q₃ : Share) (k : ℕ) (b o : ℕ) (γ : GName) (ys : List Node) (b₁ o₁ : ℕ) (γ₁ : GName) (ks : List ℕ) (b₂ o₂ : ℕ) (γ₂ : GName) (xs : List ℕ) (b₃ o₃ : ℕ) (γ₃ : GName) (ms : List ℕ)
     (isk : Is usize k (vint w64 k ∷ [])) (room : Room T.the-row (length ys)) where
   abbrev n : ℕ
   n = length ys
@@ -63,7 +63,7 @@ module _ {M : Type 1} (𝓤 : URA M) (H : Heap 𝓤) (A : Atoms 𝓤) (W : Given
   x = record { ptr = (b, o); name = γ; now = ys }
 
   abbrev a : Arg
-  a = (k, (x, ((record { ptr = (b₁, o₁); name = γ₁; now = ks }), ((record { ptr = (b₂, o₂); name = γ₂; now = os }), ((record { ptr = (b₃, o₃); name = γ₃; now = ms }), tt)))))
+  a = (k, (x, ((record { ptr = (b₁, o₁); name = γ₁; now = ks }), ((record { ptr = (b₂, o₂); name = γ₂; now = xs }), ((record { ptr = (b₃, o₃); name = γ₃; now = ms }), tt)))))
 
   abbrev at : List Val × (List Val × (List Val × (List Val × (List Val × Unit {0}))))
   at = (vint w64 k ∷ [], (sliceVal (b, o) n ∷ [], (vptr b₁ o₁ ∷ [], (vptr b₂ o₂ ∷ [], (vptr b₃ o₃ ∷ [], tt)))))
@@ -77,8 +77,8 @@ module _ {M : Type 1} (𝓤 : URA M) (H : Heap 𝓤) (A : Atoms 𝓤) (W : Given
   abbrev Kinds : List ℕ → Fml
   Kinds l = MutRef (named 1) κ₁ (Array u8 40) .own (record { ptr = (b₁, o₁); name = γ₁; now = l }) (vptr b₁ o₁ ∷ [])
 
-  abbrev Marks : List ℕ → Fml
-  Marks l = MutRef (named 2) κ₂ (Array u8 40) .own (record { ptr = (b₂, o₂); name = γ₂; now = l }) (vptr b₂ o₂ ∷ [])
+  abbrev Indexes : List ℕ → Fml
+  Indexes l = MutRef (named 2) κ₂ (Array u8 40) .own (record { ptr = (b₂, o₂); name = γ₂; now = l }) (vptr b₂ o₂ ∷ [])
 
   abbrev Macs : List ℕ → Fml
   Macs l = MutRef (named 3) κ₃ (Array u64 40) .own (record { ptr = (b₃, o₃); name = γ₃; now = l }) (vptr b₃ o₃ ∷ [])
@@ -88,7 +88,7 @@ module _ {M : Type 1} (𝓤 : URA M) (H : Heap 𝓤) (A : Atoms 𝓤) (W : Given
 
   -- what is noted once the loop has come to i
   abbrev begun : Digested
-  begun = digested (dg true 0) ks os ms
+  begun = digested (dg true 0 0) ks xs ms
 
   abbrev st : ℕ → Digested
   st i = digestTo k ys begun i
@@ -96,10 +96,10 @@ module _ {M : Type 1} (𝓤 : URA M) (H : Heap 𝓤) (A : Atoms 𝓤) (W : Given
   abbrev Said : Digested → Type 0
   Said z = z ≡ digestAll k ys begun
 
-  exits : (z : Digested) → z .digest .top < 2 ^ 64 → Said z → ent 𝓤 (⋆ 𝓤 H A (‵ (flft κ q) ∷ ‵ Own ∷ ‵ (Kinds (z .kinds)) ∷ ‵ (flft κ₁ q₁) ∷ ‵ (Marks (z .marks)) ∷ ‵ (flft κ₂ q₂) ∷ ‵ (Macs (z .macs)) ∷ ‵ (flft κ₃ q₃) ∷ [])) (Post (dv (z .digest)))
-  exits z lt e =
-      qed W (‵ (flft κ q) ∷ ‵ Own ∷ ‵ (Kinds (z .kinds)) ∷ ‵ (flft κ₁ q₁) ∷ ‵ (Marks (z .marks)) ∷ ‵ (flft κ₂ q₂) ∷ ‵ (Macs (z .macs)) ∷ ‵ (flft κ₃ q₃) ∷ []) ∵
-      suffices ! _ (ends-at 𝓤 H A digest′.ended stayed (digest′.clauses 𝓤 H A mem run) W (((κ, (κ₁, (κ₂, (κ₃, tt)))), (q, (q₁, (q₂, (q₃, tt)))), tt, a, at), tt) (dv (z .digest)) (z .digest) (tt, (tt, (z .kinds, (z .marks, (z .macs, tt))))) (tt, (tt, (tt, (tt, (tt, tt)))))) $ says ! e $
+  exits : (z : Digested) → z .digest .top < 2 ^ 64 → z .digest .owed < 2 ^ 64 → Said z → ent 𝓤 (⋆ 𝓤 H A (‵ (flft κ q) ∷ ‵ Own ∷ ‵ (Kinds (z .kinds)) ∷ ‵ (flft κ₁ q₁) ∷ ‵ (Indexes (z .indexes)) ∷ ‵ (flft κ₂ q₂) ∷ ‵ (Macs (z .macs)) ∷ ‵ (flft κ₃ q₃) ∷ [])) (Post (dv (z .digest)))
+  exits z lt lo e =
+      qed W (‵ (flft κ q) ∷ ‵ Own ∷ ‵ (Kinds (z .kinds)) ∷ ‵ (flft κ₁ q₁) ∷ ‵ (Indexes (z .indexes)) ∷ ‵ (flft κ₂ q₂) ∷ ‵ (Macs (z .macs)) ∷ ‵ (flft κ₃ q₃) ∷ []) ∵
+      suffices ! _ (ends-at 𝓤 H A digest′.ended stayed (digest′.clauses 𝓤 H A mem run) W (((κ, (κ₁, (κ₂, (κ₃, tt)))), (q, (q₁, (q₂, (q₃, tt)))), tt, a, at), tt) (dv (z .digest)) (z .digest) (tt, (tt, (z .kinds, (z .indexes, (z .macs, tt))))) (tt, (tt, (tt, (tt, (tt, tt)))))) $ says ! e $
       nothing ! $
       move ! (8 ∷ 0 ∷ []) $
       join ! $
@@ -121,7 +121,7 @@ module _ {M : Type 1} (𝓤 : URA M) (H : Heap 𝓤) (A : Atoms 𝓤) (W : Given
       fjoin ! $
       owned ! usize (Is usize) (uint-makes 𝓤 H A W w64) k _ isk $
       fjoin ! $
-      owned ! Di.the-row (Is Di.the-row) ((LL.makes Di.the-type Di′.the-plain) 𝓤 H A) (z .digest) _ (is-digest (z .digest) lt) $
+      owned ! Di.the-row (Is Di.the-row) ((LL.makes Di.the-type Di′.the-plain) 𝓤 H A) (z .digest) _ (is-digest (z .digest) lt lo) $
       move ! (1 ∷ 0 ∷ []) $
       done !
 
@@ -137,7 +137,7 @@ module _ {M : Type 1} (𝓤 : URA M) (H : Heap 𝓤) (A : Atoms 𝓤) (W : Given
     toks = ‵ (flft (ν₁ ∷ []) fullShare) ⊛ (‵ (flft (ν₂ ∷ []) fullShare) ⊛ (‵ (flft (ν₃ ∷ []) fullShare) ⊛ ‵ ftrue))
 
     abbrev note-args : Digest × (ℕ × (ℕ × (Node × (RefT (List ℕ) × (RefT (List ℕ) × (RefT (List ℕ) × Unit {0}))))))
-    note-args = (z .digest, (k, (i, (y, ((record { ptr = (b₁, o₁); name = δ₁; now = z .kinds }), ((record { ptr = (b₂, o₂); name = δ₂; now = z .marks }), ((record { ptr = (b₃, o₃); name = δ₃; now = z .macs }), tt)))))))
+    note-args = (z .digest, (k, (i, (y, ((record { ptr = (b₁, o₁); name = δ₁; now = z .kinds }), ((record { ptr = (b₂, o₂); name = δ₂; now = z .indexes }), ((record { ptr = (b₃, o₃); name = δ₃; now = z .macs }), tt)))))))
 
     abbrev note-vals : List Val × (List Val × (List Val × (List Val × (List Val × (List Val × (List Val × Unit {0}))))))
     note-vals = (dv (z .digest) ∷ [], (vint w64 k ∷ [], (vint w64 i ∷ [], (LL.val T.the-type T′.the-laws y ∷ [], (vptr b₁ o₁ ∷ [], (vptr b₂ o₂ ∷ [], (vptr b₃ o₃ ∷ [], tt)))))))
@@ -152,7 +152,7 @@ module _ {M : Type 1} (𝓤 : URA M) (H : Heap 𝓤) (A : Atoms 𝓤) (W : Given
     asked = qed W (toks ∷ ‵ Owns ∷ []) ∵ join ! $ frame ! $ done !
 
     abbrev Wrote : Digest → List ℕ → List ℕ → List ℕ → Type 0
-    Wrote r kz oz mz = digested r kz oz mz ≡ noted k i y (digested (z .digest) (z .kinds) (z .marks) (z .macs))
+    Wrote r kz oz mz = digested r kz oz mz ≡ noted k i y (digested (z .digest) (z .kinds) (z .indexes) (z .macs))
 
   module _ (𝓣 : Tables 𝓤 H) (fm : FmC 𝓤 H (W .laws) (𝓣 .C)) (known-least : Triple 𝓤 (𝓣 .C #ground·least) (Least 𝓤 H A mem run)) (known-note : Triple 𝓤 (𝓣 .C #look·note) (Note 𝓤 H A mem run)) where
     module _ (q′ : Share) (m : ℕ) (em : m ≡ min n 40) (l₀ l₁ l₂ l₃ l₄ l₅ l₆ l₇ l₈ l₉ l₁₀ l₁₁ l₁₂ l₁₃ l₁₄ l₁₅ l₁₆ : ℕ) where
@@ -166,7 +166,7 @@ module _ {M : Type 1} (𝓤 : URA M) (H : Heap 𝓤) (A : Atoms 𝓤) (W : Given
       En = (Di′.mir, l₀) ∷ (word, l₁) ∷ (slice, l₂) ∷ ((tyRef (named 1) mut (tyArray (tyInt w8) 40)), l₃) ∷ ((tyRef (named 2) mut (tyArray (tyInt w8) 40)), l₄) ∷ ((tyRef (named 3) mut (tyArray (tyInt w64) 40)), l₅) ∷ (word, l₆) ∷ (Di′.mir, l₇) ∷ (word, l₈) ∷ (word, l₉) ∷ (tyBool, l₁₀) ∷ (word, l₁₁) ∷ (tyPtr, l₁₂) ∷ (T′.mir, l₁₃) ∷ ((tyRef erased mut (tyArray (tyInt w8) 40)), l₁₄) ∷ ((tyRef erased mut (tyArray (tyInt w8) 40)), l₁₅) ∷ ((tyRef erased mut (tyArray (tyInt w64) 40)), l₁₆) ∷ []
 
       abbrev At : Turn m → List (Item 𝓤)
-      At s = ‵ (row T.the-row q′ ys b o) ∷ ‵ (fobor κ q (arr-parts (shares T.the-row) n .part q′ ys b o)) ∷ ‵ Own ∷ ‵ (Kinds (st (s .i) .kinds)) ∷ ‵ (flft κ₁ q₁) ∷ ‵ (Marks (st (s .i) .marks)) ∷ ‵ (flft κ₂ q₂) ∷ ‵ (Macs (st (s .i) .macs)) ∷ ‵ (flft κ₃ q₃) ∷ ‵ (froom (tyRef erased mut (tyArray (tyInt w64) 40)) l₁₆ 0) ∷ ‵ (fdies (tyRef erased mut (tyArray (tyInt w64) 40)) l₁₆) ∷ ‵ (froom (tyRef erased mut (tyArray (tyInt w8) 40)) l₁₅ 0) ∷ ‵ (fdies (tyRef erased mut (tyArray (tyInt w8) 40)) l₁₅) ∷ ‵ (froom (tyRef erased mut (tyArray (tyInt w8) 40)) l₁₄ 0) ∷ ‵ (fdies (tyRef erased mut (tyArray (tyInt w8) 40)) l₁₄) ∷ ‵ (froom T′.mir l₁₃ 0) ∷ ‵ (fdies T′.mir l₁₃) ∷ ‵ (froom tyPtr l₁₂ 0) ∷ ‵ (fdies tyPtr l₁₂) ∷ ‵ (froom word l₁₁ 0) ∷ ‵ (fdies word l₁₁) ∷ ‵ (froom tyBool l₁₀ 0) ∷ ‵ (fdies tyBool l₁₀) ∷ ‵ (fat fullShare word l₉ 0 (vint w64 n)) ∷ ‵ (fdies word l₉) ∷ ‵ (fat fullShare word l₈ 0 (vint w64 (s .i))) ∷ ‵ (fdies word l₈) ∷ ‵ (fat fullShare Di′.mir l₇ 0 (dv (st (s .i) .digest))) ∷ ‵ (fdies Di′.mir l₇) ∷ ‵ (fat fullShare word l₆ 0 (vint w64 m)) ∷ ‵ (fdies word l₆) ∷ ‵ (fat fullShare (tyRef (named 3) mut (tyArray (tyInt w64) 40)) l₅ 0 (vptr b₃ o₃)) ∷ ‵ (fdies (tyRef (named 3) mut (tyArray (tyInt w64) 40)) l₅) ∷ ‵ (fat fullShare (tyRef (named 2) mut (tyArray (tyInt w8) 40)) l₄ 0 (vptr b₂ o₂)) ∷ ‵ (fdies (tyRef (named 2) mut (tyArray (tyInt w8) 40)) l₄) ∷ ‵ (fat fullShare (tyRef (named 1) mut (tyArray (tyInt w8) 40)) l₃ 0 (vptr b₁ o₁)) ∷ ‵ (fdies (tyRef (named 1) mut (tyArray (tyInt w8) 40)) l₃) ∷ ‵ (fat fullShare slice l₂ 0 (sliceVal (b, o) n)) ∷ ‵ (fdies slice l₂) ∷ ‵ (fat fullShare word l₁ 0 (vint w64 k)) ∷ ‵ (fdies word l₁) ∷ ‵ (froom Di′.mir l₀ 0) ∷ ‵ (fdies Di′.mir l₀) ∷ []
+      At s = ‵ (row T.the-row q′ ys b o) ∷ ‵ (fobor κ q (arr-parts (shares T.the-row) n .part q′ ys b o)) ∷ ‵ Own ∷ ‵ (Kinds (st (s .i) .kinds)) ∷ ‵ (flft κ₁ q₁) ∷ ‵ (Indexes (st (s .i) .indexes)) ∷ ‵ (flft κ₂ q₂) ∷ ‵ (Macs (st (s .i) .macs)) ∷ ‵ (flft κ₃ q₃) ∷ ‵ (froom (tyRef erased mut (tyArray (tyInt w64) 40)) l₁₆ 0) ∷ ‵ (fdies (tyRef erased mut (tyArray (tyInt w64) 40)) l₁₆) ∷ ‵ (froom (tyRef erased mut (tyArray (tyInt w8) 40)) l₁₅ 0) ∷ ‵ (fdies (tyRef erased mut (tyArray (tyInt w8) 40)) l₁₅) ∷ ‵ (froom (tyRef erased mut (tyArray (tyInt w8) 40)) l₁₄ 0) ∷ ‵ (fdies (tyRef erased mut (tyArray (tyInt w8) 40)) l₁₄) ∷ ‵ (froom T′.mir l₁₃ 0) ∷ ‵ (fdies T′.mir l₁₃) ∷ ‵ (froom tyPtr l₁₂ 0) ∷ ‵ (fdies tyPtr l₁₂) ∷ ‵ (froom word l₁₁ 0) ∷ ‵ (fdies word l₁₁) ∷ ‵ (froom tyBool l₁₀ 0) ∷ ‵ (fdies tyBool l₁₀) ∷ ‵ (fat fullShare word l₉ 0 (vint w64 n)) ∷ ‵ (fdies word l₉) ∷ ‵ (fat fullShare word l₈ 0 (vint w64 (s .i))) ∷ ‵ (fdies word l₈) ∷ ‵ (fat fullShare Di′.mir l₇ 0 (dv (st (s .i) .digest))) ∷ ‵ (fdies Di′.mir l₇) ∷ ‵ (fat fullShare word l₆ 0 (vint w64 m)) ∷ ‵ (fdies word l₆) ∷ ‵ (fat fullShare (tyRef (named 3) mut (tyArray (tyInt w64) 40)) l₅ 0 (vptr b₃ o₃)) ∷ ‵ (fdies (tyRef (named 3) mut (tyArray (tyInt w64) 40)) l₅) ∷ ‵ (fat fullShare (tyRef (named 2) mut (tyArray (tyInt w8) 40)) l₄ 0 (vptr b₂ o₂)) ∷ ‵ (fdies (tyRef (named 2) mut (tyArray (tyInt w8) 40)) l₄) ∷ ‵ (fat fullShare (tyRef (named 1) mut (tyArray (tyInt w8) 40)) l₃ 0 (vptr b₁ o₁)) ∷ ‵ (fdies (tyRef (named 1) mut (tyArray (tyInt w8) 40)) l₃) ∷ ‵ (fat fullShare slice l₂ 0 (sliceVal (b, o) n)) ∷ ‵ (fdies slice l₂) ∷ ‵ (fat fullShare word l₁ 0 (vint w64 k)) ∷ ‵ (fdies word l₁) ∷ ‵ (froom Di′.mir l₀ 0) ∷ ‵ (fdies Di′.mir l₀) ∷ []
 
       abbrev Turned : Turn m → Out → SProp 𝓤
       Turned s = afterTurn 𝓤 H (Below 𝓤 H A (Nearer m) At s) (afterBlock 𝓤 H (afterSeq 𝓤 H (Wp 𝓤 H C Λ En Mir.t-6 (atReturn 𝓤 H En Post)) (atReturn 𝓤 H En Post)))
@@ -178,7 +178,10 @@ module _ {M : Type 1} (𝓤 : URA M) (H : Heap 𝓤) (A : Atoms 𝓤) (W : Given
       full s e = ap st (at-end n em s e)
 
       top-fits : (s : Turn m) → st (s .i) .digest .top < 2 ^ 64
-      top-fits s = omega (arith, em, s .le, top-small k ys ks os ms (s .i))
+      top-fits s = omega (arith, em, s .le, top-small k ys ks xs ms (s .i))
+
+      owed-fits : (s : Turn m) → st (s .i) .digest .owed < 2 ^ 64
+      owed-fits s = omega (arith, em, s .le, owed-small k ys ks xs ms (s .i))
 
       now-noted : (s : Turn m) → s .i < m → {z : Digested} → z ≡ noted k (s .i) (getD ys (s .i) none) (st (s .i)) → z ≡ st (s .i + 1)
       now-noted s l e = e ∙ noted-below k (s .i) (getD ys (s .i) none) (st (s .i)) (small n em s l) ∙ digest-more k ys begun (s .i)
@@ -208,7 +211,7 @@ module _ {M : Type 1} (𝓤 : URA M) (H : Heap 𝓤) (A : Atoms 𝓤) (W : Given
           move ! (6 ∷ 7 ∷ []) $
           use2 W (later (some (λ (δ : GName). ‵ (MutRef (named 0) (ν₁ ∷ []) (Array u8 40) .own (record { ptr = (b₁, o₁); name = δ; now = (st (s .i) .kinds) }) (vptr b₁ o₁ ∷ [])) ⊛ ‵ (LentAgain (Array u8 40) κ₁ (ν₁ ∷ []) q₁ γ₁ b₁ o₁ δ (st (s .i) .kinds))))) (lends-again 𝓤 H A W (Array u8 40) (named 1) κ₁ (ν₁ ∷ []) q₁ γ₁ b₁ o₁ (named 0) (st (s .i) .kinds)) $ await ! tt $ pick ! (λ δ₁. split ! $
           move ! (8 ∷ 9 ∷ []) $
-          use2 W (later (some (λ (δ : GName). ‵ (MutRef (named 1) (ν₂ ∷ []) (Array u8 40) .own (record { ptr = (b₂, o₂); name = δ; now = (st (s .i) .marks) }) (vptr b₂ o₂ ∷ [])) ⊛ ‵ (LentAgain (Array u8 40) κ₂ (ν₂ ∷ []) q₂ γ₂ b₂ o₂ δ (st (s .i) .marks))))) (lends-again 𝓤 H A W (Array u8 40) (named 2) κ₂ (ν₂ ∷ []) q₂ γ₂ b₂ o₂ (named 1) (st (s .i) .marks)) $ await ! tt $ pick ! (λ δ₂. split ! $
+          use2 W (later (some (λ (δ : GName). ‵ (MutRef (named 1) (ν₂ ∷ []) (Array u8 40) .own (record { ptr = (b₂, o₂); name = δ; now = (st (s .i) .indexes) }) (vptr b₂ o₂ ∷ [])) ⊛ ‵ (LentAgain (Array u8 40) κ₂ (ν₂ ∷ []) q₂ γ₂ b₂ o₂ δ (st (s .i) .indexes))))) (lends-again 𝓤 H A W (Array u8 40) (named 2) κ₂ (ν₂ ∷ []) q₂ γ₂ b₂ o₂ (named 1) (st (s .i) .indexes)) $ await ! tt $ pick ! (λ δ₂. split ! $
           move ! (10 ∷ 11 ∷ []) $
           use2 W (later (some (λ (δ : GName). ‵ (MutRef (named 2) (ν₃ ∷ []) (Array u64 40) .own (record { ptr = (b₃, o₃); name = δ; now = (st (s .i) .macs) }) (vptr b₃ o₃ ∷ [])) ⊛ ‵ (LentAgain (Array u64 40) κ₃ (ν₃ ∷ []) q₃ γ₃ b₃ o₃ δ (st (s .i) .macs))))) (lends-again 𝓤 H A W (Array u64 40) (named 3) κ₃ (ν₃ ∷ []) q₃ γ₃ b₃ o₃ (named 2) (st (s .i) .macs)) $ await ! tt $ pick ! (λ δ₃. split ! $
           -- `note`
@@ -225,7 +228,7 @@ module _ {M : Type 1} (𝓤 : URA M) (H : Heap 𝓤) (A : Atoms 𝓤) (W : Given
           fjoin ! $
           owned ! usize (Is usize) (uint-makes 𝓤 H A W w64) k _ isk $
           fjoin ! $
-          owned ! Di.the-row (Is Di.the-row) ((LL.makes Di.the-type Di′.the-plain) 𝓤 H A) (st (s .i) .digest) _ (is-digest (st (s .i) .digest) (top-fits s)) $
+          owned ! Di.the-row (Is Di.the-row) ((LL.makes Di.the-type Di′.the-plain) 𝓤 H A) (st (s .i) .digest) _ (is-digest (st (s .i) .digest) (top-fits s) (owed-fits s)) $
           fjoin ! $
           nothing ! $
           move ! (5 ∷ 0 ∷ []) $
@@ -277,14 +280,14 @@ module _ {M : Type 1} (𝓤 : URA M) (H : Heap 𝓤) (A : Atoms 𝓤) (W : Given
           move ! (3 ∷ []) $
           lft-end ! tt $
           move ! (0 ∷ 7 ∷ 5 ∷ []) $
-          use3 W (later (‵ (MutRef (named 2) κ₂ (Array u8 40) .own (record { ptr = (b₂, o₂); name = γ₂; now = ws .1 .1 .1 .1 .1 .0 }) (vptr b₂ o₂ ∷ [])) ⊛ ‵ (flft κ₂ q₂))) (comes-back 𝓤 H A W (Array u8 40) (named 2) κ₂ (ν₂ ∷ []) q₂ γ₂ b₂ o₂ δ₂ (st (s .i) .marks) (ws .1 .1 .1 .1 .1 .0)) $ await ! tt $ split ! $
+          use3 W (later (‵ (MutRef (named 2) κ₂ (Array u8 40) .own (record { ptr = (b₂, o₂); name = γ₂; now = ws .1 .1 .1 .1 .1 .0 }) (vptr b₂ o₂ ∷ [])) ⊛ ‵ (flft κ₂ q₂))) (comes-back 𝓤 H A W (Array u8 40) (named 2) κ₂ (ν₂ ∷ []) q₂ γ₂ b₂ o₂ δ₂ (st (s .i) .indexes) (ws .1 .1 .1 .1 .1 .0)) $ await ! tt $ split ! $
           move ! (4 ∷ []) $
           lft-end ! tt $
           move ! (0 ∷ 6 ∷ 5 ∷ []) $
           use3 W (later (‵ (MutRef (named 3) κ₃ (Array u64 40) .own (record { ptr = (b₃, o₃); name = γ₃; now = ws .1 .1 .1 .1 .1 .1 .0 }) (vptr b₃ o₃ ∷ [])) ⊛ ‵ (flft κ₃ q₃))) (comes-back 𝓤 H A W (Array u64 40) (named 3) κ₃ (ν₃ ∷ []) q₃ γ₃ b₃ o₃ δ₃ (st (s .i) .macs) (ws .1 .1 .1 .1 .1 .1 .0)) $ await ! tt $ split ! $
           rewrite ! 27 (λ (z : Digested). ‵ (fat fullShare Di′.mir l₇ 0 (dv (z .digest)))) (now-noted s (less s e) told) refl $
           rewrite ! 4 (λ (z : Digested). ‵ (Kinds (z .kinds))) (now-noted s (less s e) told) refl $
-          rewrite ! 2 (λ (z : Digested). ‵ (Marks (z .marks))) (now-noted s (less s e) told) refl $
+          rewrite ! 2 (λ (z : Digested). ‵ (Indexes (z .indexes))) (now-noted s (less s e) told) refl $
           rewrite ! 0 (λ (z : Digested). ‵ (Macs (z .macs))) (now-noted s (less s e) told) refl $
           assigns-last ! (bin ! (load ! (from ! (stop !)) (look ! 25 refl)) (lit ! tt) (record { fits = next-fits n em s (less s e) })) (from ! (stop !)) (store ! 25 refl (tt, record { fits = next-fits n em s (less s e) })) $
           forget ! 21 refl $ forget ! 19 refl $ forget ! 17 refl $ forget ! 15 refl $ forget ! 13 refl $ forget ! 11 refl $ forget ! 9 refl $
@@ -295,11 +298,11 @@ module _ {M : Type 1} (𝓤 : URA M) (H : Heap 𝓤) (A : Atoms 𝓤) (W : Given
           rewrite ! 21 (λ (t : Bool). ‵ (fat fullShare tyBool l₁₀ 0 (vbool t))) e refl $
           leaves-loop ! (load ! (from ! (stop !)) (look ! 21 refl)) $ exec ! C Λ En Mir.t-6 (atRet En Post) $
           shuts-slice ! tt T.the-row q′ ys b o $
-          assigns ! (of-opd ! (load ! (from ! (stop !)) (look ! 26 refl))) (from ! (stop !)) (init ! 40 refl (LL.lawful Di.the-type Di′.the-laws 𝓤 H A W .typed (st (s .i) .digest) _ (is-digest (st (s .i) .digest) (top-fits s)) .0)) $
+          assigns ! (of-opd ! (load ! (from ! (stop !)) (look ! 26 refl))) (from ! (stop !)) (init ! 40 refl (LL.lawful Di.the-type Di′.the-laws 𝓤 H A W .typed (st (s .i) .digest) _ (is-digest (st (s .i) .digest) (top-fits s) (owed-fits s)) .0)) $
           returns ! (look ! 40 refl) $ forget ! 40 refl $ forget ! 38 refl $ forget ! 36 refl $ forget ! 34 refl $ forget ! 32 refl $ forget ! 30 refl $ forget ! 28 refl $ forget ! 26 refl $ forget ! 24 refl $ forget ! 22 refl $ forget ! 20 refl $
           move ! (40 ∷ 41 ∷ []) $ free1 ! $ move ! (38 ∷ 39 ∷ []) $ free1 ! $ move ! (36 ∷ 37 ∷ []) $ free1 ! $ move ! (34 ∷ 35 ∷ []) $ free1 ! $ move ! (32 ∷ 33 ∷ []) $ free1 ! $ move ! (30 ∷ 31 ∷ []) $ free1 ! $ move ! (28 ∷ 29 ∷ []) $ free1 ! $ move ! (26 ∷ 27 ∷ []) $ free1 ! $ move ! (24 ∷ 25 ∷ []) $ free1 ! $ move ! (22 ∷ 23 ∷ []) $ free1 ! $ move ! (20 ∷ 21 ∷ []) $ free1 ! $ move ! (18 ∷ 19 ∷ []) $ free1 ! $ move ! (16 ∷ 17 ∷ []) $ free1 ! $ move ! (14 ∷ 15 ∷ []) $ free1 ! $ move ! (12 ∷ 13 ∷ []) $ free1 ! $ move ! (10 ∷ 11 ∷ []) $ free1 ! $ move ! (8 ∷ 9 ∷ []) $ free1 ! $ free0 ! $
           keep ! (0 ∷ 1 ∷ 2 ∷ 3 ∷ 4 ∷ 5 ∷ 6 ∷ 7 ∷ []) $
-          by ! (exits (st (s .i)) (top-fits s) (full s e))
+          by ! (exits (st (s .i)) (top-fits s) (owed-fits s) (full s e))
 
       turns : (s : Turn m) → Sq W (At s) (runs C Λ En Mir.turn-1 (anyQ (Turned s)))
       turns s = turn-at s (ltb (s .i) m) refl
@@ -345,13 +348,13 @@ module _ {M : Type 1} (𝓤 : URA M) (H : Heap 𝓤) (A : Atoms 𝓤) (W : Given
         peeks ! usize (Is usize) (shows′ 𝓤 H A usize) m (u ∷ []) (λ ism. drop ! $
         land ! (from ! (stop !)) (init ! 28 refl (uint-lawful 𝓤 H A W w64 .typed m _ ism .0)) $
         rewrite ! 28 (λ (y : Val). ‵ (fat fullShare word l₆ 0 y)) (ap only (ism .0)) refl $
-        assigns ! (agg ! (and-then ! (true-lit !) (and-then ! (lit ! tt) (no-more !)))) (from ! (stop !)) (init ! 26 refl (LL.lawful Di.the-type Di′.the-laws 𝓤 H A W .typed (begun .digest) _ (is-digest (begun .digest) (lit< tt)) .0)) $
+        assigns ! (agg ! (and-then ! (true-lit !) (and-then ! (lit ! tt) (and-then ! (lit ! tt) (no-more !))))) (from ! (stop !)) (init ! 26 refl (LL.lawful Di.the-type Di′.the-laws 𝓤 H A W .typed (begun .digest) _ (is-digest (begun .digest) (lit< tt) (lit< tt)) .0)) $
         assigns ! (of-opd ! (lit ! tt)) (from ! (stop !)) (init ! 24 refl (tt, record { fits = lit< tt })) $
         move ! (4 ∷ 0 ∷ 5 ∷ 1 ∷ 6 ∷ 2 ∷ 3 ∷ []) $
         -- nothing is noted yet
         rewrite ! 26 (λ (z : Digested). ‵ (fat fullShare Di′.mir l₇ 0 (dv (z .digest)))) (sym (digest-none k ys begun)) refl $
         rewrite ! 4 (λ (z : Digested). ‵ (Kinds (z .kinds))) (sym (digest-none k ys begun)) refl $
-        rewrite ! 2 (λ (z : Digested). ‵ (Marks (z .marks))) (sym (digest-none k ys begun)) refl $
+        rewrite ! 2 (λ (z : Digested). ‵ (Indexes (z .indexes))) (sym (digest-none k ys begun)) refl $
         rewrite ! 0 (λ (z : Digested). ‵ (Macs (z .macs))) (sym (digest-none k ys begun)) refl $
         -- the slice is looked into
         move ! (7 ∷ []) $

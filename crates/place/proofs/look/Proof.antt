@@ -40,11 +40,11 @@ abbrev stayed : Stays (f.ended .signature .params) (f.ended .kept)
 stayed = (stay-none-ref (0 ∷ []) tt (plain (λ _. K.the-row)) yes, (stay-none-slice (1 ∷ []) tt (plain (λ _. T.the-row)) yes, (gave-ref (2 ∷ []) tt (ArrayOf (plain (λ _. u8)) (λ _. tt) 40), (gave-ref (3 ∷ []) tt (ArrayOf (plain (λ _. u8)) (λ _. tt) 40), (gave-ref (4 ∷ []) tt (ArrayOf (plain (λ _. u64)) (λ _. tt) 40), tt)))))
 
 abbrev seen : Coordinator → State → Digest → Seen
-seen h s d = record { setup = h .setup; state = s; ok = d .ok; top = d .top }
+seen h s d = record { setup = h .setup; state = s; ok = d .ok; top = d .top; owed = d .owed }
 
 is-seen : (h : Coordinator) (vs : List Val) → Is K.the-row h vs → (s : State) (us : List Val) → Is Sta.the-row s us → (d : Digest) (ws : List Val) → Is Di.the-row d ws → Is Sn.the-row (seen h s d) (LL.vals Sn.the-type Sn′.the-laws (seen h s d))
 is-seen h vs is s us of d ws on =
-    LL.owes Sn.the-type Sn′.the-laws (seen h s d) (is-setup h vs is, (subst (Is Sta.the-row s) (LL.tells Sta.the-type Sta′.the-laws s us of) of, (LL.owed Di.the-type Di′.the-laws d ws on .0, (LL.owed Di.the-type Di′.the-laws d ws on .1 .0, tt))))
+    LL.owes Sn.the-type Sn′.the-laws (seen h s d) (is-setup h vs is, (subst (Is Sta.the-row s) (LL.tells Sta.the-type Sta′.the-laws s us of) of, (LL.owed Di.the-type Di′.the-laws d ws on .0, (LL.owed Di.the-type Di′.the-laws d ws on .1 .0, (LL.owed Di.the-type Di′.the-laws d ws on .1 .1 .0, tt)))))
 
 module _ {M : Type 1} (𝓤 : URA M) (H : Heap 𝓤) (A : Atoms 𝓤) (at-mem : Memory → SProp 𝓤) (run : Routine → Fun 𝓤) where
   abbrev State-of : Contract 𝓤
@@ -53,10 +53,10 @@ module _ {M : Type 1} (𝓤 : URA M) (H : Heap 𝓤) (A : Atoms 𝓤) (at-mem : 
   abbrev Digests : Contract 𝓤
   Digests = tripleOf 𝓤 H A digest′.signature (digest′.spec 𝓤 H A at-mem run)
 
-module _ {M : Type 1} (𝓤 : URA M) (H : Heap 𝓤) (A : Atoms 𝓤) (W : Given 𝓤 H A) (at-mem : Memory → SProp 𝓤) (run : Routine → Fun 𝓤) (κ₀ κ₁ κ₂ κ₃ κ₄ : Lft) (q₀ q₁ q₂ q₃ q₄ : Share) (b₀ o₀ : ℕ) (γ₀ : GName) (h : Coordinator) (b₁ o₁ : ℕ) (γ₁ : GName) (ys : List Node) (b₂ o₂ : ℕ) (γ₂ : GName) (ks : List ℕ) (b₃ o₃ : ℕ) (γ₃ : GName) (os : List ℕ) (b₄ o₄ : ℕ) (γ₄ : GName) (ms : List ℕ)
+module _ {M : Type 1} (𝓤 : URA M) (H : Heap 𝓤) (A : Atoms 𝓤) (W : Given 𝓤 H A) (at-mem : Memory → SProp 𝓤) (run : Routine → Fun 𝓤) (κ₀ κ₁ κ₂ κ₃ κ₄ : Lft) (q₀ q₁ q₂ q₃ q₄ : Share) (b₀ o₀ : ℕ) (γ₀ : GName) (h : Coordinator) (b₁ o₁ : ℕ) (γ₁ : GName) (ys : List Node) (b₂ o₂ : ℕ) (γ₂ : GName) (ks : List ℕ) (b₃ o₃ : ℕ) (γ₃ : GName) (xs : List ℕ) (b₄ o₄ : ℕ) (γ₄ : GName) (ms : List ℕ)
     (room : Room T.the-row (length ys)) where
   abbrev a : Arg
-  a = ((record { ptr = (b₀, o₀); name = γ₀; now = h }), ((record { ptr = (b₁, o₁); name = γ₁; now = ys }), ((record { ptr = (b₂, o₂); name = γ₂; now = ks }), ((record { ptr = (b₃, o₃); name = γ₃; now = os }), ((record { ptr = (b₄, o₄); name = γ₄; now = ms }), tt)))))
+  a = ((record { ptr = (b₀, o₀); name = γ₀; now = h }), ((record { ptr = (b₁, o₁); name = γ₁; now = ys }), ((record { ptr = (b₂, o₂); name = γ₂; now = ks }), ((record { ptr = (b₃, o₃); name = γ₃; now = xs }), ((record { ptr = (b₄, o₄); name = γ₄; now = ms }), tt)))))
 
   abbrev at : List Val × (List Val × (List Val × (List Val × (List Val × Unit {0}))))
   at = (vptr b₀ o₀ ∷ [], (sliceVal (b₁, o₁) (length ys) ∷ [], (vptr b₂ o₂ ∷ [], (vptr b₃ o₃ ∷ [], (vptr b₄ o₄ ∷ [], tt)))))
@@ -67,10 +67,10 @@ module _ {M : Type 1} (𝓤 : URA M) (H : Heap 𝓤) (A : Atoms 𝓤) (W : Given
   abbrev Post : Val → SProp 𝓤
   Post = walkOf 𝓤 H A f.ended stayed (f.clauses 𝓤 H A at-mem run) .post (((κ₀, (κ₁, (κ₂, (κ₃, (κ₄, tt))))), (q₀, (q₁, (q₂, (q₃, (q₄, tt))))), tt, a, at), tt)
 
-  exits : (r : Seen) (v : Val) (ks′ os′ ms′ : List ℕ) → (r .setup ≡ h .setup) × ((r .state ≡ stateOf h) × (digested (dg (r .ok) (r .top)) ks′ os′ ms′ ≡ digestAll (h .setup .k) ys (digested (dg true 0) ks os ms))) → Is Sn.the-row r (v ∷ []) → ent 𝓤 (⋆ 𝓤 H A (‵ (ShrRef (named 0) κ₀ K.the-row .own (record { ptr = (b₀, o₀); name = γ₀; now = h }) (vptr b₀ o₀ ∷ [])) ∷ ‵ (flft κ₀ q₀) ∷ ‵ (ShrSlice (named 1) κ₁ T.the-row .own (record { ptr = (b₁, o₁); name = γ₁; now = ys }) (sliceVal (b₁, o₁) (length ys) ∷ [])) ∷ ‵ (flft κ₁ q₁) ∷ ‵ (fres γ₂ ((Array u8 40) .coded .code ks′)) ∷ ‵ (flft κ₂ q₂) ∷ ‵ (fres γ₃ ((Array u8 40) .coded .code os′)) ∷ ‵ (flft κ₃ q₃) ∷ ‵ (fres γ₄ ((Array u64 40) .coded .code ms′)) ∷ ‵ (flft κ₄ q₄) ∷ [])) (Post v)
-  exits r v ks′ os′ ms′ e is =
-      qed W (‵ (ShrRef (named 0) κ₀ K.the-row .own (record { ptr = (b₀, o₀); name = γ₀; now = h }) (vptr b₀ o₀ ∷ [])) ∷ ‵ (flft κ₀ q₀) ∷ ‵ (ShrSlice (named 1) κ₁ T.the-row .own (record { ptr = (b₁, o₁); name = γ₁; now = ys }) (sliceVal (b₁, o₁) (length ys) ∷ [])) ∷ ‵ (flft κ₁ q₁) ∷ ‵ (fres γ₂ ((Array u8 40) .coded .code ks′)) ∷ ‵ (flft κ₂ q₂) ∷ ‵ (fres γ₃ ((Array u8 40) .coded .code os′)) ∷ ‵ (flft κ₃ q₃) ∷ ‵ (fres γ₄ ((Array u64 40) .coded .code ms′)) ∷ ‵ (flft κ₄ q₄) ∷ []) ∵
-      suffices ! _ (ends-at 𝓤 H A f.ended stayed (f.clauses 𝓤 H A at-mem run) W (((κ₀, (κ₁, (κ₂, (κ₃, (κ₄, tt))))), (q₀, (q₁, (q₂, (q₃, (q₄, tt))))), tt, a, at), tt) v r (tt, (tt, (ks′, (os′, (ms′, tt))))) (tt, (tt, (tt, (tt, (tt, tt)))))) $ says ! e $
+  exits : (r : Seen) (v : Val) (ks′ xs′ ms′ : List ℕ) → (r .setup ≡ h .setup) × ((r .state ≡ stateOf h) × (digested (dg (r .ok) (r .top) (r .owed)) ks′ xs′ ms′ ≡ digestAll (h .setup .k) ys (digested (dg true 0 0) ks xs ms))) → Is Sn.the-row r (v ∷ []) → ent 𝓤 (⋆ 𝓤 H A (‵ (ShrRef (named 0) κ₀ K.the-row .own (record { ptr = (b₀, o₀); name = γ₀; now = h }) (vptr b₀ o₀ ∷ [])) ∷ ‵ (flft κ₀ q₀) ∷ ‵ (ShrSlice (named 1) κ₁ T.the-row .own (record { ptr = (b₁, o₁); name = γ₁; now = ys }) (sliceVal (b₁, o₁) (length ys) ∷ [])) ∷ ‵ (flft κ₁ q₁) ∷ ‵ (fres γ₂ ((Array u8 40) .coded .code ks′)) ∷ ‵ (flft κ₂ q₂) ∷ ‵ (fres γ₃ ((Array u8 40) .coded .code xs′)) ∷ ‵ (flft κ₃ q₃) ∷ ‵ (fres γ₄ ((Array u64 40) .coded .code ms′)) ∷ ‵ (flft κ₄ q₄) ∷ [])) (Post v)
+  exits r v ks′ xs′ ms′ e is =
+      qed W (‵ (ShrRef (named 0) κ₀ K.the-row .own (record { ptr = (b₀, o₀); name = γ₀; now = h }) (vptr b₀ o₀ ∷ [])) ∷ ‵ (flft κ₀ q₀) ∷ ‵ (ShrSlice (named 1) κ₁ T.the-row .own (record { ptr = (b₁, o₁); name = γ₁; now = ys }) (sliceVal (b₁, o₁) (length ys) ∷ [])) ∷ ‵ (flft κ₁ q₁) ∷ ‵ (fres γ₂ ((Array u8 40) .coded .code ks′)) ∷ ‵ (flft κ₂ q₂) ∷ ‵ (fres γ₃ ((Array u8 40) .coded .code xs′)) ∷ ‵ (flft κ₃ q₃) ∷ ‵ (fres γ₄ ((Array u64 40) .coded .code ms′)) ∷ ‵ (flft κ₄ q₄) ∷ []) ∵
+      suffices ! _ (ends-at 𝓤 H A f.ended stayed (f.clauses 𝓤 H A at-mem run) W (((κ₀, (κ₁, (κ₂, (κ₃, (κ₄, tt))))), (q₀, (q₁, (q₂, (q₃, (q₄, tt))))), tt, a, at), tt) v r (tt, (tt, (ks′, (xs′, (ms′, tt))))) (tt, (tt, (tt, (tt, (tt, tt)))))) $ says ! e $
       nothing ! $
       move ! (10 ∷ 0 ∷ []) $ join ! $
       move ! (8 ∷ 0 ∷ []) $ join ! $
@@ -161,11 +161,11 @@ module _ {M : Type 1} (𝓤 : URA M) (H : Heap 𝓤) (A : Atoms 𝓤) (W : Given
         move ! (5 ∷ 0 ∷ []) $ join ! $
         move ! (5 ∷ 0 ∷ []) $ join ! $
         move ! (5 ∷ 0 ∷ []) $ join ! $
-        use2 W (raw (Digests 𝓤 H A at-mem run .pre (((κ₁, (κ₂, (κ₃, (κ₄, tt)))), (q₁, (q₂, (q₃, (q₄, tt)))), tt, (h .setup .k, ((record { ptr = (b₁, o₁); name = γ₁; now = ys }), ((record { ptr = (b₂, o₂); name = γ₂; now = ks }), ((record { ptr = (b₃, o₃); name = γ₃; now = os }), ((record { ptr = (b₄, o₄); name = γ₄; now = ms }), tt))))), (vint w64 (h .setup .k) ∷ [], (sliceVal (b₁, o₁) (length ys) ∷ [], (vptr b₂ o₂ ∷ [], (vptr b₃ o₃ ∷ [], (vptr b₄ o₄ ∷ [], tt)))))), tt))) (qed W ((‵ (flft κ₁ q₁) ⊛ (‵ (flft κ₂ q₂) ⊛ (‵ (flft κ₃ q₃) ⊛ (‵ (flft κ₄ q₄) ⊛ (‵ ftrue))))) ∷ ‵ (owns (usize ∷ ShrSlice (named 0) κ₁ T.the-row ∷ MutRef (named 1) κ₂ (Array u8 40) ∷ MutRef (named 2) κ₃ (Array u8 40) ∷ MutRef (named 3) κ₄ (Array u64 40) ∷ []) (h .setup .k, ((record { ptr = (b₁, o₁); name = γ₁; now = ys }), ((record { ptr = (b₂, o₂); name = γ₂; now = ks }), ((record { ptr = (b₃, o₃); name = γ₃; now = os }), ((record { ptr = (b₄, o₄); name = γ₄; now = ms }), tt))))) (vint w64 (h .setup .k) ∷ [], (sliceVal (b₁, o₁) (length ys) ∷ [], (vptr b₂ o₂ ∷ [], (vptr b₃ o₃ ∷ [], (vptr b₄ o₄ ∷ [], tt)))))) ∷ []) ∵ join ! $ frame ! $ done !) $
-        calls-at ! fm (Digests 𝓤 H A at-mem run) known-digest (((κ₁, (κ₂, (κ₃, (κ₄, tt)))), (q₁, (q₂, (q₃, (q₄, tt)))), tt, (h .setup .k, ((record { ptr = (b₁, o₁); name = γ₁; now = ys }), ((record { ptr = (b₂, o₂); name = γ₂; now = ks }), ((record { ptr = (b₃, o₃); name = γ₃; now = os }), ((record { ptr = (b₄, o₄); name = γ₄; now = ms }), tt))))), (vint w64 (h .setup .k) ∷ [], (sliceVal (b₁, o₁) (length ys) ∷ [], (vptr b₂ o₂ ∷ [], (vptr b₃ o₃ ∷ [], (vptr b₄ o₄ ∷ [], tt)))))), tt) (and-then ! (load ! (from ! (fld ! refl (stop !))) (look-in ! 14 (sub ! 1 refl (whole !)))) (and-then ! (load ! (from ! (stop !)) (look ! 22 refl)) (and-then ! (load ! (from ! (stop !)) (look ! 8 refl)) (and-then ! (load ! (from ! (stop !)) (look ! 6 refl)) (and-then ! (load ! (from ! (stop !)) (look ! 4 refl)) (no-more !)))))) (λ vd.
-        use1 W (later (some (λ (d : Digest). ((‵ (flft κ₁ q₁) ⊛ (‵ (flft κ₂ q₂) ⊛ (‵ (flft κ₃ q₃) ⊛ (‵ (flft κ₄ q₄) ⊛ (‵ ftrue))))) ⊛ ‵ (Di.the-row .own d (vd ∷ []))) ⊛ raw (ensured 𝓤 H A digest′.ended (digest′.clauses 𝓤 H A at-mem run) (κ₁, (κ₂, (κ₃, (κ₄, tt)))) (h .setup .k, ((record { ptr = (b₁, o₁); name = γ₁; now = ys }), ((record { ptr = (b₂, o₂); name = γ₂; now = ks }), ((record { ptr = (b₃, o₃); name = γ₃; now = os }), ((record { ptr = (b₄, o₄); name = γ₄; now = ms }), tt))))) tt d)))) (id⊢ 𝓤 _) $ await ! tt $ pick ! (λ d. split ! $
-        move ! (1 ∷ []) $ use1 W (some (λ (ws : Unit {0} × (Unit {0} × (List ℕ × (List ℕ × (List ℕ × Unit {0}))))). ‵ (lasts digest′.ended (κ₁, (κ₂, (κ₃, (κ₄, tt)))) (h .setup .k, ((record { ptr = (b₁, o₁); name = γ₁; now = ys }), ((record { ptr = (b₂, o₂); name = γ₂; now = ks }), ((record { ptr = (b₃, o₃); name = γ₃; now = os }), ((record { ptr = (b₄, o₄); name = γ₄; now = ms }), tt))))) ws) ⊛ raw (fact 𝓤 (digested d (ws .1 .1 .0) (ws .1 .1 .1 .0) (ws .1 .1 .1 .1 .0) ≡ digestAll (h .setup .k) ys (digested (dg true 0) ks os ms))))) (id⊢ 𝓤 _) $ pick ! (λ ws. split ! $
-        move ! (1 ∷ []) $ heard ! (digested d (ws .1 .1 .0) (ws .1 .1 .1 .0) (ws .1 .1 .1 .1 .0) ≡ digestAll (h .setup .k) ys (digested (dg true 0) ks os ms)) (λ ed.
+        use2 W (raw (Digests 𝓤 H A at-mem run .pre (((κ₁, (κ₂, (κ₃, (κ₄, tt)))), (q₁, (q₂, (q₃, (q₄, tt)))), tt, (h .setup .k, ((record { ptr = (b₁, o₁); name = γ₁; now = ys }), ((record { ptr = (b₂, o₂); name = γ₂; now = ks }), ((record { ptr = (b₃, o₃); name = γ₃; now = xs }), ((record { ptr = (b₄, o₄); name = γ₄; now = ms }), tt))))), (vint w64 (h .setup .k) ∷ [], (sliceVal (b₁, o₁) (length ys) ∷ [], (vptr b₂ o₂ ∷ [], (vptr b₃ o₃ ∷ [], (vptr b₄ o₄ ∷ [], tt)))))), tt))) (qed W ((‵ (flft κ₁ q₁) ⊛ (‵ (flft κ₂ q₂) ⊛ (‵ (flft κ₃ q₃) ⊛ (‵ (flft κ₄ q₄) ⊛ (‵ ftrue))))) ∷ ‵ (owns (usize ∷ ShrSlice (named 0) κ₁ T.the-row ∷ MutRef (named 1) κ₂ (Array u8 40) ∷ MutRef (named 2) κ₃ (Array u8 40) ∷ MutRef (named 3) κ₄ (Array u64 40) ∷ []) (h .setup .k, ((record { ptr = (b₁, o₁); name = γ₁; now = ys }), ((record { ptr = (b₂, o₂); name = γ₂; now = ks }), ((record { ptr = (b₃, o₃); name = γ₃; now = xs }), ((record { ptr = (b₄, o₄); name = γ₄; now = ms }), tt))))) (vint w64 (h .setup .k) ∷ [], (sliceVal (b₁, o₁) (length ys) ∷ [], (vptr b₂ o₂ ∷ [], (vptr b₃ o₃ ∷ [], (vptr b₄ o₄ ∷ [], tt)))))) ∷ []) ∵ join ! $ frame ! $ done !) $
+        calls-at ! fm (Digests 𝓤 H A at-mem run) known-digest (((κ₁, (κ₂, (κ₃, (κ₄, tt)))), (q₁, (q₂, (q₃, (q₄, tt)))), tt, (h .setup .k, ((record { ptr = (b₁, o₁); name = γ₁; now = ys }), ((record { ptr = (b₂, o₂); name = γ₂; now = ks }), ((record { ptr = (b₃, o₃); name = γ₃; now = xs }), ((record { ptr = (b₄, o₄); name = γ₄; now = ms }), tt))))), (vint w64 (h .setup .k) ∷ [], (sliceVal (b₁, o₁) (length ys) ∷ [], (vptr b₂ o₂ ∷ [], (vptr b₃ o₃ ∷ [], (vptr b₄ o₄ ∷ [], tt)))))), tt) (and-then ! (load ! (from ! (fld ! refl (stop !))) (look-in ! 14 (sub ! 1 refl (whole !)))) (and-then ! (load ! (from ! (stop !)) (look ! 22 refl)) (and-then ! (load ! (from ! (stop !)) (look ! 8 refl)) (and-then ! (load ! (from ! (stop !)) (look ! 6 refl)) (and-then ! (load ! (from ! (stop !)) (look ! 4 refl)) (no-more !)))))) (λ vd.
+        use1 W (later (some (λ (d : Digest). ((‵ (flft κ₁ q₁) ⊛ (‵ (flft κ₂ q₂) ⊛ (‵ (flft κ₃ q₃) ⊛ (‵ (flft κ₄ q₄) ⊛ (‵ ftrue))))) ⊛ ‵ (Di.the-row .own d (vd ∷ []))) ⊛ raw (ensured 𝓤 H A digest′.ended (digest′.clauses 𝓤 H A at-mem run) (κ₁, (κ₂, (κ₃, (κ₄, tt)))) (h .setup .k, ((record { ptr = (b₁, o₁); name = γ₁; now = ys }), ((record { ptr = (b₂, o₂); name = γ₂; now = ks }), ((record { ptr = (b₃, o₃); name = γ₃; now = xs }), ((record { ptr = (b₄, o₄); name = γ₄; now = ms }), tt))))) tt d)))) (id⊢ 𝓤 _) $ await ! tt $ pick ! (λ d. split ! $
+        move ! (1 ∷ []) $ use1 W (some (λ (ws : Unit {0} × (Unit {0} × (List ℕ × (List ℕ × (List ℕ × Unit {0}))))). ‵ (lasts digest′.ended (κ₁, (κ₂, (κ₃, (κ₄, tt)))) (h .setup .k, ((record { ptr = (b₁, o₁); name = γ₁; now = ys }), ((record { ptr = (b₂, o₂); name = γ₂; now = ks }), ((record { ptr = (b₃, o₃); name = γ₃; now = xs }), ((record { ptr = (b₄, o₄); name = γ₄; now = ms }), tt))))) ws) ⊛ raw (fact 𝓤 (digested d (ws .1 .1 .0) (ws .1 .1 .1 .0) (ws .1 .1 .1 .1 .0) ≡ digestAll (h .setup .k) ys (digested (dg true 0 0) ks xs ms))))) (id⊢ 𝓤 _) $ pick ! (λ ws. split ! $
+        move ! (1 ∷ []) $ heard ! (digested d (ws .1 .1 .0) (ws .1 .1 .1 .0) (ws .1 .1 .1 .1 .0) ≡ digestAll (h .setup .k) ys (digested (dg true 0 0) ks xs ms)) (λ ed.
         fsplit ! $
         drop ! $
         fsplit ! $
@@ -183,7 +183,7 @@ module _ {M : Type 1} (𝓤 : URA M) (H : Heap 𝓤) (A : Atoms 𝓤) (W : Given
         move ! (1 ∷ []) $ drop ! $
         land ! (from ! (stop !)) (init ! 16 refl (LL.lawful Di.the-type Di′.the-laws 𝓤 H A W .typed d _ isd .0)) $
         rewrite ! 16 (λ (y : Val). ‵ (fat fullShare Di′.mir l₈ 0 y)) (ap only (LL.tells Di.the-type Di′.the-laws d _ isd)) refl $
-        assigns ! (agg ! (and-then ! (load ! (from ! (stop !)) (look ! 20 refl)) (and-then ! (load ! (from ! (stop !)) (look ! 18 refl)) (and-then ! (load ! (from ! (fld ! refl (stop !))) (look-in ! 16 (sub ! 0 refl (whole !)))) (and-then ! (load ! (from ! (fld ! refl (stop !))) (look-in ! 16 (sub ! 1 refl (whole !)))) (no-more !)))))) (from ! (stop !)) (init ! 32 refl (LL.lawful Sn.the-type Sn′.the-laws 𝓤 H A W .typed (seen h s d) _ (is-seen h _ isc s _ iss d _ isd) .0)) $
+        assigns ! (agg ! (and-then ! (load ! (from ! (stop !)) (look ! 20 refl)) (and-then ! (load ! (from ! (stop !)) (look ! 18 refl)) (and-then ! (load ! (from ! (fld ! refl (stop !))) (look-in ! 16 (sub ! 0 refl (whole !)))) (and-then ! (load ! (from ! (fld ! refl (stop !))) (look-in ! 16 (sub ! 1 refl (whole !)))) (and-then ! (load ! (from ! (fld ! refl (stop !))) (look-in ! 16 (sub ! 2 refl (whole !)))) (no-more !))))))) (from ! (stop !)) (init ! 32 refl (LL.lawful Sn.the-type Sn′.the-laws 𝓤 H A W .typed (seen h s d) _ (is-seen h _ isc s _ iss d _ isd) .0)) $
         returns ! (look ! 32 refl) $ forget ! 32 refl $ forget ! 30 refl $ forget ! 28 refl $ forget ! 26 refl $ forget ! 24 refl $ forget ! 22 refl $ forget ! 20 refl $ forget ! 18 refl $ forget ! 16 refl $ forget ! 14 refl $ forget ! 12 refl $ forget ! 10 refl $
         move ! (32 ∷ 33 ∷ []) $ free1 ! $ move ! (30 ∷ 31 ∷ []) $ free1 ! $ move ! (28 ∷ 29 ∷ []) $ free1 ! $ move ! (26 ∷ 27 ∷ []) $ free1 ! $ move ! (24 ∷ 25 ∷ []) $ free1 ! $ move ! (22 ∷ 23 ∷ []) $ free1 ! $ move ! (20 ∷ 21 ∷ []) $ free1 ! $ move ! (18 ∷ 19 ∷ []) $ free1 ! $ move ! (16 ∷ 17 ∷ []) $ free1 ! $ move ! (14 ∷ 15 ∷ []) $ free1 ! $ move ! (12 ∷ 13 ∷ []) $ free1 ! $ move ! (10 ∷ 11 ∷ []) $ free1 ! $ free0 ! $
         keep ! (9 ∷ 8 ∷ 7 ∷ 3 ∷ 6 ∷ 2 ∷ 5 ∷ 1 ∷ 4 ∷ 0 ∷ []) $

@@ -22,12 +22,12 @@ hearing-requires-2 c κs = search needs
 returns : tie.Need-returns
 returns c =
     let args = c .before .before .before .args in
-    λ b co t k. makes-heard b co t (To (Awaiting (args .board) (args .exchange) (args .requester) true)) (args .board) (args .session) (Wait (args .board) (args .exchange)) (c .hearing .ensures) k ∙ rw (c .before .enum-told .given .1) refl
+    λ b co t f k. makes-heard b co t (To (Awaiting (args .board) (args .exchange) (args .requester) true)) (args .board) (args .session) (Wait (args .board) (args .exchange)) (c .hearing .ensures) f k ∙ rw (c .before .enum-told .given .1) refl
 
 returns-2 : tie.Need-returns-2
 returns-2 c =
     let args = c .before .before .args in
-    λ b co t k. makes-heard b co t (To Resting) (args .board) (args .session) Rest (c .hearing2 .ensures) k ∙ sym (ap shows (acked-ends (args .exchange) (args .board) (args .requester) co _ (c .before .match .keys2)))
+    λ b co t f k. makes-heard b co t (To Resting) (args .board) (args .session) Rest (c .hearing2 .ensures) f k ∙ sym (ap shows (acked-ends (args .exchange) (args .board) (args .requester) co _ (c .before .match .keys2)))
 
 pub acknowledged-spec : {M : Type 1} → statement M
 acknowledged-spec =

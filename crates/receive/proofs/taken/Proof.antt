@@ -1,6 +1,8 @@
 -- `receive::taken` meets its contract: an ACK, a refusal, or the ACK due with what follows it.
-use mathlib.Core.Path.{refl}
+use mathlib.Core.Path.{refl, ap}
 use denote.Ref.{now}
+use Rattle.board.specs.declared.Node.{Node}
+use Rattle.coordinator.proofs.Fitting.{fit-told}
 use Rattle.change.proofs.Making.{shows-as}
 use Rattle.receive.proofs.Leaving.{shows-refused, shows-ack, acknowledges}
 use borrow.Author.Needs.{needs}
@@ -31,7 +33,7 @@ acking-requires c κs = search needs
 returns : tie.Need-returns
 returns c =
     let args = c .before .before .before .before .before .before .args in
-    λ b brought co t s k. rw (c .before .before .enum-told .given .1) (shows-ack (now (args .out)) (args .exchange) (args .board) (args .requester) co _ (rw (c .before .ack-session .ensures) at (c .acknowledged .ensures b co t (k .1))))
+    λ b brought co t s k. rw (c .before .before .enum-told .given .1) (shows-ack (now (args .out)) (args .exchange) (args .board) (args .requester) co _ (rw (c .before .ack-session .ensures) at (c .acknowledged .ensures b co t (fit-told co t (s .fit) .table) (k .1))))
 
 returns-2 : tie.Need-returns-2
 returns-2 c =
@@ -44,7 +46,7 @@ same-length c = search needs
 returns-3 : tie.Need-returns-3
 returns-3 c =
     let args = c .before .before .before .before .before .before .before .before .args in
-    λ b brought co t s k. shows-as (now (args .out)) _ (c .before .before .before .before .following .ensures b (now (args .payload)) brought co t (args .exchange) _ s (k .0)) (c .before .before .acking .ensures b co t s (k .0))
+    λ b brought co t s k. shows-as (now (args .out)) _ (c .before .before .before .before .following .ensures b (now (args .payload)) brought co t (args .exchange) _ s (k .0)) (c .before .before .acking .ensures b co t s (ap (λ (n : Node). n .index) (k .1)))
 
 pub taken-spec : {M : Type 1} → statement M
 taken-spec =

@@ -21,7 +21,7 @@ refusing-requires c κs = search needs
 returns : tie.Need-returns
 returns c = λ p co t s k.
     let args = c .before .before .before .before .before .args in
-    leaves-as (made (c .refusing .result) p co t) (now (args .out)) _ (discover-busy co t (length (now (args .out))) (s .fit) (busy-seen s (k .1) (c .before .before .is-busy .ensures)) (c .before .if1 .taken)) (makes-refusal p co t Busy (c .refusing .ensures), refl)
+    leaves-as (made (c .refusing .result) p co t) (now (args .out)) _ (discover-busy co t (length (now (args .out))) (s .fit) (busy-seen s (c .before .before .is-busy .ensures)) (c .before .if1 .taken)) (makes-refusal p co t Busy (c .refusing .ensures), refl)
 
 is-held-back-requires : tie.Need-is-held-back-requires
 is-held-back-requires c κs = search needs
@@ -32,7 +32,7 @@ refusing-requires-2 c κs = search needs
 returns-2 : tie.Need-returns-2
 returns-2 c = λ p co t s k.
     let args = c .before .before .before .before .before .before .before .args in
-    leaves-as (made (c .refusing2 .result) p co t) (now (args .out)) _ (discover-held co t (length (now (args .out))) (s .fit) (busy-seen s (k .1) (c .before .before .before .before .is-busy .ensures)) (c .before .before .before .if1 .left) (held-seen s (c .before .before .is-held-back .ensures)) (c .before .if2 .taken)) (makes-refusal p co t Held (c .refusing2 .ensures), refl)
+    leaves-as (made (c .refusing2 .result) p co t) (now (args .out)) _ (discover-held co t (length (now (args .out))) (s .fit) (busy-seen s (c .before .before .before .before .is-busy .ensures)) (c .before .before .before .if1 .left) (held-seen s (c .before .before .is-held-back .ensures)) (c .before .if2 .taken)) (makes-refusal p co t Held (c .refusing2 .ensures), refl)
 
 search-requires : tie.Need-search-requires
 search-requires c κs = search needs
@@ -43,7 +43,7 @@ same-length c = search needs
 returns-3 : tie.Need-returns-3
 returns-3 c = λ p co t s k.
     let args = c .before .before .before .before .before .before .before .before .before .before .args in
-    leaves-as (made (c .before .before .search .result) p co t) (now (args .out)) _ (discover-searches co t (length (now (args .out))) (s .fit) (busy-seen s (k .1) (c .before .before .before .before .before .before .before .is-busy .ensures)) (c .before .before .before .before .before .before .if1 .left) (held-seen s (c .before .before .before .before .before .is-held-back .ensures)) (c .before .before .before .before .if2 .left)) (c .before .before .search .ensures p co t s (k .0))
+    leaves-as (made (c .before .before .search .result) p co t) (now (args .out)) _ (discover-searches co t (length (now (args .out))) (s .fit) (busy-seen s (c .before .before .before .before .before .before .before .is-busy .ensures)) (c .before .before .before .before .before .before .if1 .left) (held-seen s (c .before .before .before .before .before .is-held-back .ensures)) (c .before .before .before .before .if2 .left)) (c .before .before .search .ensures p co t s k)
 
 pub discover-spec : {M : Type 1} → statement M
 discover-spec =

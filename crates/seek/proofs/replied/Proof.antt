@@ -69,7 +69,7 @@ returns-2 : tie.Need-returns-2
 returns-2 c = λ p co t s k.
     let args = c .before .before .before .before .before .before .before .args in
     let sent = told (now (args .payload)) (args .reply) Present (c .before .before .before .found-at .ensures) (c .before .before .before .before .mac-place .ensures) (c .before .enum-told2 .given .1) in
-    rw (c .before .enum-told2 .given .1) (c .present .ensures p co t s (k .2) ∙ ap (λ (f : Found). shows (present co t (args .position) (f .mac))) sent, refl)
+    rw (c .before .enum-told2 .given .1) (c .present .ensures p co t s (k .1) ∙ ap (λ (f : Found). shows (present co t (args .position) (f .mac))) sent, refl)
 
 returns-3 : tie.Need-returns-3
 returns-3 c = λ p co t s k. rw (c .before .before .reply .given .1) (makes-refusal p co t _ (c .refusing .ensures), refl)

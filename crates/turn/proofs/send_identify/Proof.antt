@@ -11,6 +11,9 @@ use borrow.Author.Needs.{needs}
 use Rattle.turn.proofs.send_identify.Statement.{statement}
 use Rattle.turn.proofs.send_identify.Tie as tie
 
+index-at-requires : tie.Need-index-at-requires
+index-at-requires c κs = search needs
+
 write-identify-requires : tie.Need-write-identify-requires
 write-identify-requires c κs = search needs
 
@@ -25,10 +28,10 @@ same-length c = search needs
 
 returns : tie.Need-returns
 returns c = λ p co t s k.
-    let args = c .before .before .before .before .before .before .before .args in
+    let args = c .before .before .before .before .before .before .before .before .args in
     let wrote = c .before .before .before .before .write-identify in
-    does-sent (dueIdentify co t (args .position)) p co t (now (args .out)) _ (omega arith) (wrote .result) _ 0 Nothing _ (c .sent .ensures) (c .before .seeking .ensures) refl (edits-none t Nothing) refl (wrote .ensures) (header-seen s k (args .position) 123 0) refl
+    does-sent (dueIdentify co t (args .position)) p co t (now (args .out)) _ (omega arith) (wrote .result) _ 0 Nothing _ (c .sent .ensures) (c .before .seeking .ensures) refl (edits-none t Nothing) refl (wrote .ensures) (header-seen s k (args .position) 123 0 (c .before .before .before .before .before .before .index-at .ensures)) refl
 
 pub send-identify-spec : {M : Type 1} → statement M
 send-identify-spec =
-    tie.close (tie.spec write-identify-requires seeking-requires sent-requires same-length returns)
+    tie.close (tie.spec index-at-requires write-identify-requires seeking-requires sent-requires same-length returns)

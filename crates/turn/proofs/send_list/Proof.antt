@@ -10,6 +10,9 @@ use borrow.Author.Needs.{needs}
 use Rattle.turn.proofs.send_list.Statement.{statement}
 use Rattle.turn.proofs.send_list.Tie as tie
 
+index-at-requires : tie.Need-index-at-requires
+index-at-requires c κs = search needs
+
 write-list-requires : tie.Need-write-list-requires
 write-list-requires c κs = search needs
 
@@ -24,10 +27,10 @@ same-length c = search needs
 
 returns : tie.Need-returns
 returns c = λ p co t s k.
-    let args = c .before .before .before .before .before .before .before .args in
+    let args = c .before .before .before .before .before .before .before .before .args in
     let wrote = c .before .before .before .before .write-list in
-    does-sent (dueList co t (args .board)) p co t (now (args .out)) _ (list-small (co .setup .internal) t) (wrote .result) _ (args .board) Unmarked _ (c .sent .ensures) (c .before .waiting .ensures) refl refl refl (wrote .ensures) (header-seen s k (args .board) 20 0) (list-seen s k)
+    does-sent (dueList co t (args .board)) p co t (now (args .out)) _ (list-small (co .setup .internal) t) (wrote .result) _ (args .board) Unmarked _ (c .sent .ensures) (c .before .waiting .ensures) refl refl refl (wrote .ensures) (header-seen s (k .1) (args .board) 20 0 (c .before .before .before .before .before .before .index-at .ensures)) (list-seen s (k .0))
 
 pub send-list-spec : {M : Type 1} → statement M
 send-list-spec =
-    tie.close (tie.spec write-list-requires waiting-requires sent-requires same-length returns)
+    tie.close (tie.spec index-at-requires write-list-requires waiting-requires sent-requires same-length returns)

@@ -14,6 +14,9 @@ use borrow.Author.Needs.{needs}
 use Rattle.turn.proofs.send_offer.Statement.{statement}
 use Rattle.turn.proofs.send_offer.Tie as tie
 
+index-at-requires : tie.Need-index-at-requires
+index-at-requires c κs = search needs
+
 write-signed-requires : tie.Need-write-signed-requires
 write-signed-requires c κs = search needs
 
@@ -25,10 +28,10 @@ same-length c = search needs
 
 returns : tie.Need-returns
 returns c = λ p co t s k.
-    let args = c .before .before .before .before .before .before .args in
+    let args = c .before .before .before .before .before .before .before .args in
     let wrote = c .before .before .before .write-signed in
-    does-sent (dueOffer co t (args .board)) p co t (now (args .out)) _ (signed-small (co .setup) 0) (wrote .result) (Offered (args .board)) 0 Nothing _ (c .sent .ensures) refl refl (edits-none t Nothing) refl (wrote .ensures) (header-seen s k (args .board) 0 128) (ap (λ (x : Setup). signed x 0) (s .setup))
+    does-sent (dueOffer co t (args .board)) p co t (now (args .out)) _ (signed-small (co .setup) 0) (wrote .result) (Offered (args .board)) 0 Nothing _ (c .sent .ensures) refl refl (edits-none t Nothing) refl (wrote .ensures) (header-seen s k (args .board) 0 128 (c .before .before .before .before .before .index-at .ensures)) (ap (λ (x : Setup). signed x 0) (s .setup))
 
 pub send-offer-spec : {M : Type 1} → statement M
 send-offer-spec =
-    tie.close (tie.spec write-signed-requires sent-requires same-length returns)
+    tie.close (tie.spec index-at-requires write-signed-requires sent-requires same-length returns)
