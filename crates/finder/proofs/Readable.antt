@@ -1,18 +1,18 @@
 -- What the finder finds, the reader reads.
-use Prim.Native.Nat.{ℕ, _+_, _-_, _≤_, _<_}
+use Prim.Native.Nat.{ℕ, _+_, _-_, _<_}
 use native.Mathlib.Omega.{arith}
-use mathlib.Core.Path.{_≡_, refl, sym, ap, _∙_}
-use mathlib.Core.Bool.{Bool, true, _&&_, not}
-use mathlib.Core.List.{List, [], _∷_, _++_}
-use lib.ListN.{length, getD, take, drop, length-drop}
+use mathlib.Core.Path.{_≡_, sym, ap, _∙_}
+use mathlib.Core.Bool.{Bool, true, _&&_}
+use mathlib.Core.List.{List}
+use lib.ListN.{length, take, drop, length-drop}
 use lib.Seq.{getD-take, getD-drop, length-take-le}
-use lib.Dec.{leb, ltb}
+use lib.Dec.{leb}
 use borrow.Author.Tests.{leb-true, le-ltb, eq-eqb}
 use Rattle.ground.proofs.Choices.{and-left, and-right, not-no}
-use Rattle.refusal.specs.Refusal.{refuses, gives}
+use Rattle.refusal.specs.Refusal.{refuses}
 use Rattle.refusal.proofs.Rules.{Passed, passed}
 use Rattle.fletcher.specs.Fletcher.{isGood}
-use Rattle.frame.specs.Frame.{fields, headerOf, lengthByte, readRules, reading}
+use Rattle.frame.specs.Frame.{lengthByte, readRules, reading, ReadsWell}
 use Rattle.finder.specs.Finder.{starts, lengthAt, holdsFrame}
 use Rattle.finder.proofs.Exactly.{held-inside}
 
@@ -44,6 +44,6 @@ module _ (s : List ℕ) (i : ℕ) (a-start : i < starts s) (holds : holdsFrame s
       rest = leb (12 + lengthAt s i) (length s - i) && isGood (framed s i)
 
   -- a frame that the finder finds reads well, with the fields and the length of its own bytes
-  pub found-reads : reading (framed s i) ≡ gives (fields (headerOf (framed s i)) ++ lengthByte (framed s i) ∷ [])
+  pub found-reads : ReadsWell (framed s i)
   unfolding reading
   found-reads = passed (readRules (framed s i)) refuses _ framed-passes

@@ -1,11 +1,11 @@
 -- What a reading and a writing say tells them apart, and what a frame that was read says of its bytes.
 use Prim.Native.Nat.{ℕ, _+_, _≤_}
-use mathlib.Core.Path.{_≡_, refl, sym, ap, _∙_}
-use mathlib.Core.Bool.{Bool, true, false, not}
+use mathlib.Core.Path.{_≡_, sym, ap, _∙_}
+use mathlib.Core.Bool.{true}
 use mathlib.Core.List.{List, [], _∷_, _++_}
 use lib.ListN.{length, getD, take, drop}
 use borrow.Author.Tests.{ltb-false, eqb-true, not-false}
-use Rattle.refusal.specs.Refusal.{Told, refuses, gives, ruled}
+use Rattle.refusal.specs.Refusal.{Told, gives}
 use Rattle.refusal.specs.declared.Refusal.{Refusal}
 use Rattle.refusal.proofs.Numbers.{not-zero, same-refused}
 use Rattle.refusal.proofs.Rules.{Passed, passed, gave, refused}
@@ -71,6 +71,15 @@ whole b p =
       long = eqb-true _ _ (not-false _ (p .1 .1 .0));
       good = not-false _ (p .1 .1 .1 .0);
     }
+
+-- bytes that the reader gives values of are whole, and the values are their own
+pub read-whole : (b vs : List ℕ) → reading b ≡ gives vs → Whole b
+unfolding reading
+read-whole b vs e = whole b (gave (readRules b) (fields (headerOf b) ++ lengthByte b ∷ []) vs e .0)
+
+pub read-values : (b vs : List ℕ) → reading b ≡ gives vs → fields (headerOf b) ++ lengthByte b ∷ [] ≡ vs
+unfolding reading
+read-values b vs e = gave (readRules b) (fields (headerOf b) ++ lengthByte b ∷ []) vs e .1
 
 -- a frame that was read: its bytes are whole, and the header and the count are theirs
 pub record WellRead (b : List ℕ) (h : Header) (n : ℕ) : Type 0 where

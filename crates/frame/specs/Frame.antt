@@ -1,5 +1,6 @@
 -- The frame (001, sections 5 and 7; 01, "The frame").
 use Prim.Native.Nat.{ℕ, _+_}
+use mathlib.Core.Path.{_≡_}
 use mathlib.Core.Bool.{Bool, not}
 use mathlib.Core.List.{List, [], _∷_, _++_}
 use lib.ListN.{length, getD, take, drop}
@@ -53,6 +54,10 @@ readRules b =
 -- what the reader says of bytes: the nine fields and the payload's length, or its refusal
 unfoldable pub reading : List ℕ → Told
 reading b = ruled (readRules b) refuses (gives (fields (headerOf b) ++ lengthByte b ∷ []))
+
+-- bytes that read well: the reader gives their own fields, and their payload's length
+abbrev pub ReadsWell : List ℕ → Type 0
+ReadsWell b = reading b ≡ gives (fields (headerOf b) ++ lengthByte b ∷ [])
 
 -- the payload: the bytes from offset 10 on, as many as the length byte says; empty on a refusal (01, "The frame")
 unfoldable pub payloadOf : List ℕ → List ℕ

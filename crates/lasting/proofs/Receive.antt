@@ -6,13 +6,14 @@ use mathlib.Core.Bool.{Bool, true, false}
 use mathlib.Core.List.{List}
 use lib.ListN.{length, drop, length-take}
 use lib.Dec.{leb, ltb}
-use borrow.Author.Tests.{ltb-true, ltb-false, leb-true, lt-ltb, le-leb}
+use borrow.Author.Tests.{ltb-true, leb-true, lt-ltb, le-leb}
 use Rattle.ground.specs.Choose.{choose}
-use Rattle.ground.proofs.Choices.{and-left, and-right, both}
+use Rattle.ground.proofs.Choices.{and-left, and-right, both, not-no}
 use Rattle.refusal.specs.Refusal.{Told}
 use Rattle.refusal.specs.declared.Refusal.the-variants.{NotAwaited, UnexpectedType, BadEcho, BadMethod, NoRoom}
 use Rattle.frame.specs.declared.Header.{Header}
 use Rattle.frame.specs.Frame.{headerOf, lengthByte}
+use Rattle.frame.proofs.Told.{Whole}
 use Rattle.board.specs.declared.Node.{Node}
 use Rattle.board.specs.Table.{at, listedAt}
 use Rattle.routing.specs.Route.{routeOf}
@@ -33,6 +34,7 @@ use Rattle.coordinator.proofs.Fitting.{Carried, phase-told, fits-in, awaited, a
 use Rattle.steps.specs.After.{refused, accepted, delivers, transmits}
 use Rattle.steps.specs.Hear.{hear}
 use Rattle.steps.specs.Receive.{payload, hearAck, keptOf, acking, routed, heardIn, takenAs, takenIn, receiveRules, receiveIn, receiveOf}
+use Rattle.steps.proofs.Admitted.{admitted}
 use Rattle.lasting.proofs.Keeps.{Keeps, accepted-keeps, Stays, refused-keeps, rules-keep, phase-keeps}
 use Rattle.lasting.proofs.Hear.{hear-stays, hear-ack-stays}
 use Rattle.lasting.proofs.Seek.{sought-keeps}
@@ -120,9 +122,9 @@ module _ (c : Coordinator) (t : List Node) (h : fits c t ≡ true) (f : Header) 
   taken-keeps Unknown e = refused-keeps c t NotAwaited refl
 
 -- the payload of what passed the reader is short enough to keep
-few-bytes : (b : List ℕ) → ltb 240 (lengthByte b) ≡ false → length (payload b) ≤ 240
-few-bytes b e = omega (arith, length-take (lengthByte b) (drop 10 b), ltb-false 240 (lengthByte b) e)
+few-bytes : (b : List ℕ) → Whole b → length (payload b) ≤ 240
+few-bytes b w = omega (arith, length-take (lengthByte b) (drop 10 b), w .small)
 
 pub receive-keeps : (c : Coordinator) (t : List Node) (b : List ℕ) (room : ℕ) → Keeps c t (receiveOf c t b room)
 unfolding receiveIn
-receive-keeps c t b room = rules-keep c t (drop 1 (receiveRules (phaseOf (c .stand)) c t b)) refl (takenIn (phaseOf (c .stand)) c t (headerOf b) (payload b) room) (λ h passed. taken-keeps c t h (headerOf b) (payload b) (few-bytes b (passed .1 .0)) room (phaseOf (c .stand)) refl)
+receive-keeps c t b room = rules-keep c t (drop 1 (receiveRules (phaseOf (c .stand)) c t b)) refl (takenIn (phaseOf (c .stand)) c t (headerOf b) (payload b) room) (λ h passed. taken-keeps c t h (headerOf b) (payload b) (few-bytes b (admitted (phaseOf (c .stand)) c t b (not-no _ h, passed) .bytes)) room (phaseOf (c .stand)) refl)

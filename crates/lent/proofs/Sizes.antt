@@ -4,17 +4,17 @@ use native.Mathlib.Omega.{arith}
 use mathlib.Core.Path.{_≡_, refl, sym, ap, subst, _∙_}
 use mathlib.Core.Logic.{_⊎_, inl, inr}
 use mathlib.Core.Bool.{Bool, true, false}
-use mathlib.Core.List.{List, [], _∷_, _++_}
+use mathlib.Core.List.{List, [], _∷_}
 use lib.Dec.{eqb, ltb}
 use lib.ListN.{length, getD}
 use borrow.Author.Tests.{not-false}
 use Rattle.ground.specs.Choose.{choose}
 use Rattle.ground.proofs.Firsts.{FirstCase}
-use Rattle.refusal.specs.Refusal.{Told, gives}
-use Rattle.refusal.proofs.Rules.{Passed, passed, gave, each, by-rules}
+use Rattle.refusal.specs.Refusal.{Told}
+use Rattle.refusal.proofs.Rules.{Passed, passed, each, by-rules}
 use Rattle.frame.specs.declared.Header.{Header}
-use Rattle.frame.specs.Frame.{fields, headerOf, lengthByte, readRules, reading}
-use Rattle.frame.proofs.Told.{whole}
+use Rattle.frame.specs.Frame.{ReadsWell}
+use Rattle.frame.proofs.Told.{read-whole}
 use Rattle.board.specs.declared.Node.{Node}
 use Rattle.board.specs.declared.Wanted.{Wanted}
 use Rattle.board.specs.declared.Wanted.the-variants.{Mac, Free}
@@ -56,9 +56,8 @@ use Rattle.lent.specs.Numbers.{parts}
 use Rattle.lent.proofs.Faces.{whole-parts}
 
 -- a good frame is 12 bytes and a payload
-good-small : (bytes : List ℕ) → reading bytes ≡ gives (fields (headerOf bytes) ++ lengthByte bytes ∷ []) → length bytes ≤ 252
-unfolding reading
-good-small bytes good = omega (arith, whole bytes (gave (readRules bytes) _ _ good .0))
+good-small : (bytes : List ℕ) → ReadsWell bytes → length bytes ≤ 252
+good-small bytes good = omega (arith, read-whole bytes _ good)
 
 -- and whatever is written is one
 pub written-small : (c : Coordinator) (t : List Node) (event : Event) (b : List ℕ) (room : ℕ) → length (stepOf c t event b room .bytes) ≤ 252

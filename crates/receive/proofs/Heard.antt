@@ -8,7 +8,7 @@ use mathlib.Core.Bool.{Bool, true, false, _&&_, _||_, not, false≢true}
 use mathlib.Core.List.{List, [], _∷_, _++_}
 use lib.ListN.{length, getD}
 use lib.Dec.{eqb, ltb}
-use borrow.Author.Tests.{eqb-true, ne-eqb, not-false}
+use borrow.Author.Tests.{eqb-true, ne-eqb}
 use Rattle.ground.specs.Choose.{choose}
 use Rattle.ground.proofs.Choices.{and-right}
 use Rattle.refusal.specs.Refusal.{Told, numberOf, gives}
@@ -54,6 +54,7 @@ use Rattle.steps.specs.Join.{joinRules, joinOf}
 use Rattle.steps.specs.Hear.{hear, hearMac}
 use Rattle.steps.specs.Seek.{isWaiting, sourceIn, discovered, identified, joinFound, answered, outcome, acknowledged, settled, replyIn, repliedAs, soughtIn}
 use Rattle.steps.specs.Receive.{payload, awaits, heardIn, hearAck, acked, acking, takenAs, takenIn, receiveRules, receiveIn, receiveOf}
+use Rattle.steps.proofs.Admitted.{Admitted, admitted}
 use Rattle.steps.proofs.Refusals.{Plain, plain-step, Unchanged, refusal-changes-nothing}
 
 -- a refused frame changes nothing
@@ -278,10 +279,13 @@ pub record Sought (c : Coordinator) (t : List Node) (b : List ℕ) (room : ℕ) 
 -- a frame is accepted in a wait for a board or in that exchange
 pub taken-of : (c : Coordinator) (t : List Node) (b : List ℕ) (room : ℕ) → receiveOf c t b room .says .number ≡ 0 → Taken c t b room ⊎ Sought c t b room
 unfolding receiveIn
-taken-of c t b room a = go (phaseOf (c .stand)) refl (not-false _ (ok .1 .1 .1 .1 .1 .1 .1 .0))
+taken-of c t b room a = go (phaseOf (c .stand)) refl (let-in .awaited)
   where
     ok : Passed (receiveRules (phaseOf (c .stand)) c t b)
     ok = unrefused (λ (x : After). x .says .number ≡ 0) (receiveRules (phaseOf (c .stand)) c t b) (refused c t) (takenIn (phaseOf (c .stand)) c t (headerOf b) (payload b) room) (λ q. not-zero q) a
+
+    let-in : Admitted (phaseOf (c .stand)) c t b
+    let-in = admitted (phaseOf (c .stand)) c t b ok
 
     value : {w : Phase} → phaseOf (c .stand) ≡ w → receiveOf c t b room ≡ takenIn w c t (headerOf b) (payload b) room
     value e = passed (receiveRules (phaseOf (c .stand)) c t b) (refused c t) (takenIn (phaseOf (c .stand)) c t (headerOf b) (payload b) room) ok ∙ ap (λ (w : Phase). takenIn w c t (headerOf b) (payload b) room) e
@@ -297,7 +301,7 @@ taken-of c t b room a = go (phaseOf (c .stand)) refl (not-false _ (ok .1 .1 .1 .
           came = came;
           waited = e;
           sender = eqb-true _ _ h;
-          fit = not-false _ (ok .0);
+          fit = let-in .fit;
           does = value e;
         })
     go (ForwardDue board requester) e h = absurd (false≢true h)
@@ -309,7 +313,7 @@ taken-of c t b room a = go (phaseOf (c .stand)) refl (not-false _ (ok .1 .1 .1 .
           part = part;
           seeking = e;
           sender = eqb-true _ _ (and-right (isWaiting part) _ h);
-          fit = not-false _ (ok .0);
+          fit = let-in .fit;
           does = value e;
         })
     go Unknown e h = absurd (false≢true h)

@@ -3,9 +3,9 @@ use Prim.Native.Nat.{ℕ}
 use mathlib.Core.Path.{_≡_, refl, sym, ap, _∙_}
 use mathlib.Core.Logic.{_↔_}
 use mathlib.Core.Bool.{Bool, true, false}
-use mathlib.Core.List.{List, [], _∷_}
+use mathlib.Core.List.{List, [], _∷_, _++_}
 use Rattle.ground.specs.Choose.{choose}
-use Rattle.refusal.specs.Refusal.{numberOf, refuses, gives, ruled, Told}
+use Rattle.refusal.specs.Refusal.{refuses, gives, ruled, Told}
 use Rattle.refusal.specs.declared.Refusal.{Refusal}
 use Rattle.refusal.proofs.Numbers.{not-zero, same-refused}
 
@@ -13,6 +13,11 @@ use Rattle.refusal.proofs.Numbers.{not-zero, same-refused}
 abbrev pub Passed : List (Bool × Refusal) → Type 0
 Passed [] = Unit {0}
 Passed (rule ∷ rules) = (rule .0 ≡ false) × Passed rules
+
+-- of two lists of rules, one after the other, none holds: so none of either does
+pub passed-both : (rules more : List (Bool × Refusal)) → Passed (rules ++ more) → Passed rules × Passed more
+passed-both [] more h = (tt, h)
+passed-both (rule ∷ rules) more h = let rest = passed-both rules more (h .1) in ((h .0, rest .0), rest .1)
 
 -- where none holds the value stands
 pub passed {ℓ} : {A : Type ℓ} (rules : List (Bool × Refusal)) (f : Refusal → A) (v : A) → Passed rules → ruled rules f v ≡ v

@@ -2,11 +2,11 @@
 use Prim.Native.Nat.{ℕ}
 use mathlib.Core.Path.{_≡_}
 use mathlib.Core.Bool.{Bool, true, false, _&&_, _||_}
-use mathlib.Core.List.{List, [], _∷_, _++_}
+use mathlib.Core.List.{List}
 use lib.Dec.{eqb, leb}
 use Rattle.ground.specs.Choose.{choose}
-use Rattle.refusal.specs.Refusal.{Told, gives}
-use Rattle.frame.specs.Frame.{fields, headerOf, lengthByte, reading}
+use Rattle.refusal.specs.Refusal.{Told}
+use Rattle.frame.specs.Frame.{headerOf, ReadsWell}
 use Rattle.setup.specs.declared.Setup.{Setup}
 use Rattle.setup.specs.Setup.{address}
 use Rattle.steps.specs.declared.Event.{Event}
@@ -38,7 +38,7 @@ isTypeOf exchange message =
 
 -- bytes that are one good frame, to whom the answer names, of the type of the exchange that it names
 pub record AsTold (s : Setup) (says : Told) (bytes : List ℕ) : Type 0 where
-  pub good : reading bytes ≡ gives (fields (headerOf bytes) ++ lengthByte bytes ∷ [])
+  pub good : ReadsWell bytes
   pub to : headerOf bytes .destination ≡ addressed s says
   pub type : isTypeOf (waitsIn says) (headerOf bytes .message) ≡ true
 

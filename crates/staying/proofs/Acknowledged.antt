@@ -6,7 +6,7 @@ use mathlib.Core.Bool.{true, false≢true}
 use mathlib.Core.List.{List, []}
 use lib.ListN.{length}
 use lib.Dec.{eqb, ltb}
-use borrow.Author.Tests.{eqb-true, eq-eqb, not-false}
+use borrow.Author.Tests.{eqb-true, eq-eqb}
 use Rattle.refusal.specs.Refusal.{Told}
 use Rattle.refusal.specs.declared.Refusal.the-variants.{NoRoom}
 use Rattle.frame.specs.Frame.{headerOf, frameOf}
@@ -36,6 +36,7 @@ use Rattle.steps.specs.After.{After, refused}
 use Rattle.steps.specs.Hear.{hear}
 use Rattle.steps.specs.Seek.{joinFound, answered, outcome, settled, replyIn, repliedAs, soughtIn}
 use Rattle.steps.specs.Receive.{payload, awaits, acked, acking, heardIn, takenAs, takenIn, receiveRules, receiveIn, receiveOf}
+use Rattle.steps.proofs.Admitted.{admitted}
 use Rattle.lasting.proofs.Taken.{by-refusals, by-choice}
 use Rattle.staying.proofs.Agreement.{inside}
 use Rattle.staying.proofs.Addresses.{same-address}
@@ -110,4 +111,4 @@ module _ (c : Coordinator) (t : List Node) (h : fits c t ≡ true) (received : L
 
   pub frame-signs : Signs (receiveOf c t received room)
   unfolding receiveIn
-  frame-signs = by-refusals c t Signs (receiveRules (phaseOf (c .stand)) c t received) _ (λ r. silent) (λ passed. value-signs (phaseOf (c .stand)) refl (not-false _ (passed .1 .1 .1 .1 .1 .1 .1 .0)))
+  frame-signs = by-refusals c t Signs (receiveRules (phaseOf (c .stand)) c t received) _ (λ r. silent) (λ passed. value-signs (phaseOf (c .stand)) refl (admitted (phaseOf (c .stand)) c t received passed .awaited))

@@ -4,7 +4,7 @@ use native.Mathlib.Omega.{arith}
 use mathlib.Core.Path.{_≡_, refl, ap, subst, _∙_}
 use mathlib.Core.Bool.{Bool, true, false}
 use mathlib.Core.List.{List}
-use borrow.Author.Tests.{eqb-true, not-false}
+use borrow.Author.Tests.{eqb-true}
 use lib.Dec.{eqb, ltb}
 use Rattle.ground.specs.Choose.{choose}
 use Rattle.ground.proofs.Choices.{choose-no}
@@ -37,6 +37,7 @@ use Rattle.steps.specs.declared.Event.the-variants.{Frame}
 use Rattle.steps.specs.After.{After, refused, accepted, delivers, transmits}
 use Rattle.steps.specs.Hear.{hear}
 use Rattle.steps.specs.Receive.{payload, awaits, heardIn, hearAck, keptOf, acking, routed, acked, takenAs, takenIn, receiveRules, receiveIn, receiveOf}
+use Rattle.steps.proofs.Admitted.{admitted}
 use Rattle.series.specs.Series.{isSeek}
 use Rattle.series.specs.Observed.{Who, recorded, Seen, changed, sawBoard, sawReply}
 use Rattle.staying.proofs.Agreement.{Waits, Agrees, Tells, Told, changed-none, Changes, put-changes, inside, owe-changes, listed-tells, seen-tells, refused-tells, rules-tell}
@@ -125,4 +126,4 @@ module _ (s : Seen) (c : Coordinator) (t : List Node) (h : fits c t ≡ true) (g
 
   pub frame-tells : (room : ℕ) → Told s t Frame received (receiveOf c t received room)
   unfolding receiveIn
-  frame-tells room = rules-tell s c t Frame received g (receiveRules (phaseOf (c .stand)) c t received) (takenIn (phaseOf (c .stand)) c t (headerOf received) (payload received) room) (λ passed. value (phaseOf (c .stand)) refl (not-false _ (passed .1 .1 .1 .1 .1 .1 .1 .0)) room)
+  frame-tells room = rules-tell s c t Frame received g (receiveRules (phaseOf (c .stand)) c t received) (takenIn (phaseOf (c .stand)) c t (headerOf received) (payload received) room) (λ passed. value (phaseOf (c .stand)) refl (admitted (phaseOf (c .stand)) c t received passed .awaited) room)

@@ -8,8 +8,9 @@ use mathlib.Core.List.{List, [], _∷_, _++_}
 use lib.ListN.{getD}
 use Rattle.refusal.specs.Refusal.{gives}
 use Rattle.refusal.specs.declared.Refusal.{Refusal}
-use Rattle.refusal.proofs.Rules.{gave, each, by-rules}
-use Rattle.frame.specs.Frame.{fields, headerOf, lengthByte, readRules, reading}
+use Rattle.refusal.proofs.Rules.{each, by-rules}
+use Rattle.frame.specs.Frame.{fields, headerOf, lengthByte}
+use Rattle.frame.proofs.Told.{read-values}
 use Rattle.board.specs.declared.Node.{Node}
 use Rattle.board.specs.Table.{at}
 use Rattle.setup.specs.Setup.{address}
@@ -45,11 +46,6 @@ pub data Written (c : Coordinator) (t : List Node) (bytes : List ℕ) : Type 0 w
   to-stake : (position : ℕ) (part : Part) → phaseOf (c .stand) ≡ Seeking position part → Reaches c position bytes → Written c t bytes
   to-all : Broadcast bytes → Written c t bytes
 
--- what a good frame's values say of its bytes
-values-are : (bytes vs : List ℕ) → reading bytes ≡ gives vs → fields (headerOf bytes) ++ lengthByte bytes ∷ [] ≡ vs
-unfolding reading
-values-are bytes vs e = gave (readRules bytes) (fields (headerOf bytes) ++ lengthByte bytes ∷ []) vs e .1
-
 -- an ACK to a position of the pool reaches it
 ack-reaches : (c : Coordinator) (t : List Node) (position source : ℕ) (bytes : List ℕ) → FitSetup (c .setup) → Position (c .setup .k) position → AckTo c t position source bytes → Reaches c position bytes
 ack-reaches c t position source bytes fit here ack =
@@ -63,7 +59,7 @@ ack-reaches c t position source bytes fit here ack =
     }
   where
     are : fields (headerOf bytes) ++ lengthByte bytes ∷ [] ≡ source ∷ 255 ∷ c .setup .subnet ∷ 0 ∷ 0 ∷ at t position .index ∷ 165 ∷ 0 ∷ 128 ∷ 17 ∷ []
-    are = values-are bytes _ (ack .reads)
+    are = read-values bytes _ (ack .reads)
 
     there : headerOf bytes .destination ≡ address (c .setup) position
     there = ap (λ (l : List ℕ). getD l 0 0) are ∙ ack .sender

@@ -133,14 +133,16 @@ takenIn (ReturnDue board) c t h p room = refused c t NotAwaited
 takenIn (Seeking position part) c t h p room = soughtIn part position c t h p room
 takenIn Unknown c t h p room = refused c t NotAwaited
 
--- when bytes are refused before a wait looks at them: 22, then 1 to 5, 23 and 6 (01, "Order"; 02, C-11); 7 to 9 and then 11 follow in `takenIn`
+-- when a good frame is refused before a wait looks at it: 5, 23 and 6 (01, "Order"; 02, C-11)
+abbrev pub listenRules : Phase → Coordinator → Header → List (Bool × Refusal)
+listenRules phase c h =
+    (not (eqb (h .destination) 255), NotForUs) ∷
+    (isStray phase (c .kept) (h .message), NotDiscovering) ∷
+    (not (awaits phase (c .setup) (h .source)), NotAwaited) ∷ []
+
+-- when bytes are refused before a wait looks at them: 22, then 1 to 4, and those; 7 to 9 and then 11 follow in `takenIn` (01, "Order")
 abbrev pub receiveRules : Phase → Coordinator → List Node → List ℕ → List (Bool × Refusal)
-receiveRules phase c t b =
-    (not (fits c t), StateUnfit) ∷
-    (readRules b ++
-    (not (eqb (headerOf b .destination) 255), NotForUs) ∷
-    (isStray phase (c .kept) (headerOf b .message), NotDiscovering) ∷
-    (not (awaits phase (c .setup) (headerOf b .source)), NotAwaited) ∷ [])
+receiveRules phase c t b = (not (fits c t), StateUnfit) ∷ (readRules b ++ listenRules phase c (headerOf b))
 
 unfoldable pub receiveIn : Phase → Coordinator → List Node → List ℕ → ℕ → After
 receiveIn phase c t b room = ruled (receiveRules phase c t b) (refused c t) (takenIn phase c t (headerOf b) (payload b) room)

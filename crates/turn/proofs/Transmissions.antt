@@ -4,17 +4,17 @@ use native.Mathlib.Omega.{arith}
 use mathlib.Core.Path.{_≡_, refl, sym, ap, subst, _∙_}
 use mathlib.Core.Logic.{_⊎_, inl, inr}
 use mathlib.Core.Bool.{Bool, true, false, _&&_, not, false≢true}
-use mathlib.Core.List.{List, [], _∷_, _++_}
+use mathlib.Core.List.{List, []}
 use lib.ListN.{length, take, length-take}
 use lib.Dec.{eqb, ltb}
 use borrow.Author.Tests.{ltb-true, not-false}
 use Rattle.ground.specs.Choose.{choose}
 use Rattle.ground.proofs.Choices.{and-left}
-use Rattle.refusal.specs.Refusal.{Told, gives}
+use Rattle.refusal.specs.Refusal.{Told}
 use Rattle.refusal.proofs.Numbers.{not-zero}
 use Rattle.refusal.proofs.Rules.{Passed, passed, unrefused}
 use Rattle.frame.specs.declared.Header.{Header}
-use Rattle.frame.specs.Frame.{fields, headerOf, lengthByte, reading, payloadOf, frameOf}
+use Rattle.frame.specs.Frame.{headerOf, ReadsWell, payloadOf, frameOf}
 use Rattle.frame.proofs.RoundTrip.{reads-back, reads-back-payload}
 use Rattle.board.specs.declared.Node.{Node}
 use Rattle.board.specs.declared.Wanted.the-variants.{Listed as ListedOnes, Owed}
@@ -49,7 +49,7 @@ use Rattle.steps.proofs.Shows.{same-told}
 
 -- bytes that go to a position of the pool: they read as a good frame, to its address, from 255, in our subnet (01, "Turn" and "Forward and return"; 02, C-11)
 pub record Reaches (c : Coordinator) (position : ℕ) (bytes : List ℕ) : Type 0 where
-  pub good : reading bytes ≡ gives (fields (headerOf bytes) ++ lengthByte bytes ∷ [])
+  pub good : ReadsWell bytes
   pub destination : headerOf bytes .destination ≡ address (c .setup) position
   pub from : 1 ≤ headerOf bytes .destination
   pub upTo : headerOf bytes .destination ≤ 254
@@ -63,7 +63,7 @@ pub record Goes (c : Coordinator) (t : List Node) (board : ℕ) (bytes : List �
 
 -- bytes that go to whoever has no address yet: they read as a good frame, to 0, from 255, in subnet 0 (02, C-11; 003, 6.6 and 6.7)
 pub record Broadcast (bytes : List ℕ) : Type 0 where
-  pub good : reading bytes ≡ gives (fields (headerOf bytes) ++ lengthByte bytes ∷ [])
+  pub good : ReadsWell bytes
   pub destination : headerOf bytes .destination ≡ 0
   pub source : headerOf bytes .source ≡ 255
   pub subnet : headerOf bytes .subnet ≡ 0
