@@ -46,12 +46,17 @@ bool ct_good(const uint8_t *bytes, size_t count) {
 
 /* ---- frame ---- */
 
-ct_refusal ct_read(const uint8_t *bytes, size_t count, struct ct_frame *frame) {
+static bool takes_subnet(uint8_t ours, uint8_t subnet) {
+    return subnet == ours || subnet == 0;
+}
+
+ct_refusal ct_read(uint8_t ours, const uint8_t *bytes, size_t count, struct ct_frame *frame) {
     if (count < CT_OVERHEAD) return NADRELGOS_SHORT;
     size_t length = bytes[9];
     if (length > CT_PAYLOAD) return NADRELGOS_OVER_LONG;
     if (count != CT_OVERHEAD + length) return NADRELGOS_LENGTH_MISMATCH;
     if (!ct_good(bytes, count)) return NADRELGOS_BAD_CHECKSUM;
+    if (!takes_subnet(ours, bytes[2])) return NADRELGOS_OTHER_SUBNET;
     memcpy(&frame->header, bytes, sizeof frame->header);
     frame->payload = bytes + 10;
     frame->length = length;
@@ -73,10 +78,11 @@ ct_refusal ct_write(const struct ct_header *header, const uint8_t *payload, size
 
 /* ---- finder ---- */
 
-ct_finding ct_find(const uint8_t *bytes, size_t count, size_t budget) {
+ct_finding ct_find(uint8_t ours, const uint8_t *bytes, size_t count, size_t budget) {
     size_t starts = count < CT_OVERHEAD ? 0 : count - (CT_OVERHEAD - 1);
     size_t limit = budget < starts ? budget : starts;
     for (size_t at = 0; at < limit; at++) {
+        if (!takes_subnet(ours, bytes[at + 2])) continue;
         size_t length = CT_OVERHEAD + bytes[at + 9];
         if (length <= CT_FRAME && length <= count - at && ct_good(bytes + at, length))
             return (ct_finding){NADRELGOS_FOUND, at, length, at + 1};
@@ -523,7 +529,7 @@ struct ct_answer ct_hear(ct_coordinator *c, ct_node *nodes, size_t nodes_count, 
                          uint8_t *out, size_t room) {
     if (!is_fit(c, nodes, nodes_count)) return refuse(NADRELGOS_STATE_UNFIT);
     struct ct_frame f;
-    ct_refusal refusal = ct_read(bytes, count, &f);
+    ct_refusal refusal = ct_read(c->setup.subnet, bytes, count, &f);
     if (refusal) return refuse(refusal);
     if (f.header.destination != COORDINATOR) return refuse(NADRELGOS_NOT_FOR_US);
     if (is_stray(c, f.header.message)) return refuse(NADRELGOS_NOT_DISCOVERING);

@@ -54,9 +54,9 @@ typedef struct nadrelgos_node ct_node;
 typedef struct nadrelgos_finding ct_finding;
 
 bool ct_good(const uint8_t *bytes, size_t count);
-ct_refusal ct_read(const uint8_t *bytes, size_t count, struct ct_frame *frame);
+ct_refusal ct_read(uint8_t ours, const uint8_t *bytes, size_t count, struct ct_frame *frame);
 ct_refusal ct_write(const struct ct_header *header, const uint8_t *payload, size_t length, uint8_t *out, size_t room);
-ct_finding ct_find(const uint8_t *bytes, size_t count, size_t budget);
+ct_finding ct_find(uint8_t ours, const uint8_t *bytes, size_t count, size_t budget);
 
 struct ct_answer ct_setup(ct_coordinator *c, ct_node *nodes, size_t nodes_count, const uint8_t *addresses, size_t k,
                           uint8_t subnet, uint8_t internal, uint64_t mac, uint64_t session);

@@ -15,7 +15,7 @@ static size_t framed(const struct ct_header *header, const uint8_t *payload, siz
 size_t make_frame(size_t length, uint8_t *out) {
     uint8_t payload[CT_PAYLOAD];
     for (size_t i = 0; i < length; i++) payload[i] = (uint8_t)(7 * i + 1);
-    struct ct_header header = {.destination = 255, .source = 17, .subnet = 3, .kind = 2, .message = 2};
+    struct ct_header header = {.destination = 255, .source = 17, .subnet = SUBNET, .kind = 2, .message = 2};
     return framed(&header, payload, length, out);
 }
 
@@ -48,16 +48,19 @@ static void make_capture(uint8_t capture[CAPTURE], size_t noise) {
     }
 }
 
-void make_typical(uint8_t capture[CAPTURE]) {
+uint8_t make_typical(uint8_t capture[CAPTURE]) {
     make_capture(capture, 24);
+    return SUBNET;
 }
 
-void make_quiet(uint8_t capture[CAPTURE]) {
+uint8_t make_quiet(uint8_t capture[CAPTURE]) {
     make_capture(capture, 1);
+    return SUBNET;
 }
 
-void make_worst(uint8_t capture[CAPTURE]) {
+uint8_t make_worst(uint8_t capture[CAPTURE]) {
     memset(capture, CT_PAYLOAD, CAPTURE);
+    return CT_PAYLOAD;
 }
 
 void make_panel(struct panel *p, size_t boards, size_t last) {
@@ -65,7 +68,7 @@ void make_panel(struct panel *p, size_t boards, size_t last) {
     uint8_t pool[NADRELGOS_NODES];
     memset(p, 0, sizeof *p);
     for (size_t i = 0; i < NADRELGOS_NODES; i++) pool[i] = (uint8_t)(16 + i);
-    ct_setup(&p->coordinator, p->nodes, NADRELGOS_NODES, pool, NADRELGOS_NODES, 3, 21, 0xA1B2C3D4E5,
+    ct_setup(&p->coordinator, p->nodes, NADRELGOS_NODES, pool, NADRELGOS_NODES, SUBNET, 21, 0xA1B2C3D4E5,
              0x1122334455667788);
     for (size_t i = 0; i < boards; i++)
         p->nodes[i] = (ct_node){.kind = (uint8_t)(2 + i % KINDS),

@@ -6,6 +6,9 @@
 
 enum { CAPTURE = 4096 };
 
+/* The subnet of the frames. */
+enum { SUBNET = 3 };
+
 /* Numbers that look random and are the same in every run. */
 uint64_t next_random(uint64_t *seed);
 
@@ -15,14 +18,16 @@ size_t make_frame(size_t length, uint8_t *out);
 /* The ACK of the board at a position. */
 size_t make_ack(const ct_coordinator *c, const ct_node *nodes, size_t position, uint8_t *out);
 
+/* A capture; what is given is the subnet in which it is to be read. */
+
 /* Good frames with noise between. */
-void make_typical(uint8_t capture[CAPTURE]);
+uint8_t make_typical(uint8_t capture[CAPTURE]);
 
 /* Good frames one right after another, as on a line without noise. */
-void make_quiet(uint8_t capture[CAPTURE]);
+uint8_t make_quiet(uint8_t capture[CAPTURE]);
 
 /* No good frame, and at every start a candidate of the longest length. */
-void make_worst(uint8_t capture[CAPTURE]);
+uint8_t make_worst(uint8_t capture[CAPTURE]);
 
 struct panel {
     struct nadrelgos_coordinator coordinator;

@@ -27,7 +27,7 @@ static size_t read_counterpart(struct work *w, size_t times) {
     size_t sum = 0;
     while (times-- > 0) {
         struct ct_frame f;
-        if (ct_read(w->bytes, w->count, &f) == NADRELGOS_ACCEPTED) sum += f.header.message;
+        if (ct_read(w->subnet, w->bytes, w->count, &f) == NADRELGOS_ACCEPTED) sum += f.header.message;
     }
     return sum;
 }
@@ -57,7 +57,7 @@ static size_t list_counterpart(struct work *w, size_t times) {
     size_t frames = 0;
     while (times-- > 0)
         for (size_t at = 0;;) {
-            ct_finding f = ct_find(w->bytes + at, w->count - at, w->count);
+            ct_finding f = ct_find(w->subnet, w->bytes + at, w->count - at, w->count);
             if (f.number != NADRELGOS_FOUND) break;
             at += f.start + f.length;
             frames++;
@@ -149,6 +149,7 @@ static void row(const char *name, struct work *w, job *ours, job *others, size_t
 static void wire_table(struct work *w, const struct side *other) {
     static uint8_t full[CT_FRAME], empty[CT_FRAME], capture[CAPTURE];
     size_t full_count = make_frame(CT_PAYLOAD, full), empty_count = make_frame(0, empty);
+    w->subnet = SUBNET;
     printf("%-34s %12s %12s %8s\n", "ns a call", proved.name, other->name, "ratio");
     w->bytes = full, w->count = full_count;
     row("checksum, 252 bytes", w, proved.good, other->good, 20, 4000);
@@ -163,11 +164,11 @@ static void wire_table(struct work *w, const struct side *other) {
     w->bytes = empty, w->count = empty_count;
     row("write, payload of 0", w, proved.write, other->write, 200, 4000);
     w->bytes = capture, w->count = CAPTURE;
-    make_typical(capture);
+    w->subnet = make_typical(capture);
     row("find all in 4,096 bytes, typical", w, proved.list, other->list, 1, 400);
-    make_quiet(capture);
+    w->subnet = make_quiet(capture);
     row("find all in 4,096 bytes, no noise", w, proved.list, other->list, 1, 400);
-    make_worst(capture);
+    w->subnet = make_worst(capture);
     row("find in 4,096 bytes, worst", w, proved.list, other->list, 1, 60);
 }
 
@@ -222,7 +223,7 @@ static void growth_table(struct work *w) {
     for (int worst = 0; worst < 2; worst++) {
         double times[2][4];
         w->bytes = capture;
-        (worst ? make_worst : make_typical)(capture);
+        w->subnet = (worst ? make_worst : make_typical)(capture);
         for (size_t s = 0; s < 4; s++) {
             double best[2];
             w->count = sizes[s];
@@ -268,7 +269,7 @@ static bool loop(const char *what, const char *event, size_t boards, size_t time
 static bool list(const char *what, const char *capture_name, size_t times) {
     static uint8_t capture[CAPTURE];
     static struct work w = {.bytes = capture, .count = CAPTURE};
-    static void (*const makers[])(uint8_t *) = {make_typical, make_quiet, make_worst};
+    static uint8_t (*const makers[])(uint8_t *) = {make_typical, make_quiet, make_worst};
     static const char *const capture_names[] = {"typical", "quiet", "worst"};
     static job *const listers[] = {list_proved, list_counterpart};
     static const char *const names[] = {"proved", "counterpart"};
@@ -276,7 +277,7 @@ static bool list(const char *what, const char *capture_name, size_t times) {
         for (size_t j = 0; j < 2; j++)
             if (strcmp(capture_name, capture_names[c]) == 0 && strcmp(what, names[j]) == 0) {
                 job *volatile lister = listers[j]; /* called, whatever the compiler would make of it */
-                makers[c](capture);
+                w.subnet = makers[c](capture);
                 sink += lister(&w, times);
                 return true;
             }

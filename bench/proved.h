@@ -22,7 +22,7 @@ struct ready {
 };
 
 bool measure_good(const uint8_t *bytes, size_t count);
-struct read_numbers measure_read(const uint8_t *bytes, size_t count);
+struct read_numbers measure_read(uint8_t ours, const uint8_t *bytes, size_t count);
 struct write_numbers measure_write(struct ct_header header, const uint8_t *payload, size_t length, uint8_t *out,
                                    size_t room);
 struct ready measure_prepare(struct ct_header header);

@@ -60,12 +60,17 @@ static bool same_panel(const struct panel *a, const struct panel *b) {
 
 /* ---- frames ---- */
 
-static bool same_reading(const uint8_t *bytes, size_t count) {
-    struct read_numbers r = measure_read(bytes, count);
+static bool same_reading_in(uint8_t ours, const uint8_t *bytes, size_t count) {
+    struct read_numbers r = measure_read(ours, bytes, count);
     struct ct_frame f = {.length = 0};
-    ct_refusal refusal = ct_read(bytes, count, &f);
-    return r.refusal == refusal && r.length == f.length && memcmp(&r.header, &f.header, sizeof f.header) == 0 &&
-           measure_good(bytes, count) == ct_good(bytes, count);
+    ct_refusal refusal = ct_read(ours, bytes, count, &f);
+    return r.refusal == refusal && r.length == f.length && memcmp(&r.header, &f.header, sizeof f.header) == 0;
+}
+
+/* In our subnet, in another, and in 0. */
+static bool same_reading(const uint8_t *bytes, size_t count) {
+    return same_reading_in(SUBNET, bytes, count) && same_reading_in(SUBNET + 1, bytes, count) &&
+           same_reading_in(0, bytes, count) && measure_good(bytes, count) == ct_good(bytes, count);
 }
 
 static bool same_writing(const uint8_t *bytes, size_t length, size_t room) {
@@ -83,9 +88,9 @@ static bool same_writing(const uint8_t *bytes, size_t length, size_t room) {
     return r.refusal == w.refusal && r.written == w.written && memcmp(a, b, sizeof a) == 0;
 }
 
-static bool same_finding(const uint8_t *bytes, size_t count, size_t budget) {
-    struct nadrelgos_finding a = nadrelgos_find(bytes, count, budget);
-    ct_finding b = ct_find(bytes, count, budget);
+static bool same_finding(uint8_t ours, const uint8_t *bytes, size_t count, size_t budget) {
+    struct nadrelgos_finding a = nadrelgos_find(ours, bytes, count, budget);
+    ct_finding b = ct_find(ours, bytes, count, budget);
     return a.number == b.number && a.start == b.start && a.length == b.length && a.tried == b.tried;
 }
 
@@ -98,9 +103,10 @@ static bool same_parts(void) {
     for (size_t at = PART - CT_FRAME; at <= PART + CT_FRAME; at++) {
         memcpy(stretch, noise, LONG);
         make_frame(at % (CT_PAYLOAD + 1), stretch + at);
-        if (!same_finding(stretch, LONG, LONG)) return false;
+        if (!same_finding(SUBNET, stretch, LONG, LONG)) return false;
     }
-    return same_finding(noise, LONG, LONG) && same_finding(noise, LONG, PART) && same_finding(noise, LONG, PART + 1);
+    return same_finding(SUBNET, noise, LONG, LONG) && same_finding(SUBNET, noise, LONG, PART) &&
+           same_finding(SUBNET, noise, LONG, PART + 1);
 }
 
 static bool same_wire(void) {
@@ -114,12 +120,14 @@ static bool same_wire(void) {
         frame[next_random(&seed) % count] ^= 1;
         if (!same_reading(frame, count) || !same_reading(frame, count - 1)) return false;
     }
-    make_typical(capture);
+    uint8_t ours = make_typical(capture);
     for (size_t at = 0; at < CAPTURE; at++)
-        if (!same_finding(capture + at, CAPTURE - at, CAPTURE) || !same_finding(capture, at, at / 2)) return false;
-    make_worst(capture);
-    return same_parts() && same_finding(capture, CAPTURE, CAPTURE) &&
-           ct_find(capture, CAPTURE, CAPTURE).number == NADRELGOS_NOTHING;
+        if (!same_finding(ours, capture + at, CAPTURE - at, CAPTURE) || !same_finding(ours, capture, at, at / 2) ||
+            !same_finding(ours + 1, capture + at, CAPTURE - at, CAPTURE))
+            return false;
+    uint8_t worst = make_worst(capture);
+    return same_parts() && same_finding(worst, capture, CAPTURE, CAPTURE) &&
+           ct_find(worst, capture, CAPTURE, CAPTURE).number == NADRELGOS_NOTHING;
 }
 
 /* ---- steps ---- */
@@ -157,7 +165,7 @@ static size_t random_frame(const struct panel *p, uint64_t *seed, uint8_t *out) 
         static const uint8_t commands[] = {100, 101, 102, 105, 106, 2, 3, 9, 21, 0, 1, 40};
         struct ct_header header = {.destination = 255,
                                    .source = c->setup.pool[board - 1],
-                                   .subnet = 3,
+                                   .subnet = next_random(seed) % 16 ? SUBNET : (uint8_t)next_random(seed),
                                    .method = (uint8_t)(next_random(seed) % 5),
                                    .parameter1 = commands[next_random(seed) % sizeof commands],
                                    .parameter2 = 1,

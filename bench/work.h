@@ -7,6 +7,7 @@
 enum { PANELS = 8 };
 
 struct work {
+    uint8_t subnet; /* ours */
     const uint8_t *bytes;
     size_t count;
     struct panel panels[PANELS];

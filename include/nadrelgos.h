@@ -46,7 +46,7 @@
  *                              type received[7], payload received + 10, received[9] bytes long. The wait is over.
  *          NADRELGOS_WAIT      it was an ACK, to a forwarded request or to Get Node ID, and the response is still to
  *                              come. Nothing to send: start the timer again and go on listening.
- *          refused 1 to 9, 23  it was not taken. The wait goes on, and so does the timer.
+ *          refused             1 to 9, 23 or 24: it was not taken. The wait goes on, and so does the timer.
  *     4. Where the reply timer has run out and the wait is still on, call nadrelgos_quiet. The answer is
  *        NADRELGOS_REST; where the board missed its third message in a row it names the board dropped.
  *   The host's own part is the wire and the clock: when a frame begins and ends (nadrelgos_find tells it of bytes that
@@ -135,7 +135,7 @@ struct nadrelgos_node {
 struct nadrelgos_settings {
     uint8_t pool[40]; /* the addresses, rising; zeros past the first k */
     size_t k;         /* how many there are: positions are 1 to k */
-    uint8_t subnet;   /* the subnet byte of every frame that the panel writes */
+    uint8_t subnet;   /* our subnet: of every frame to a board, and of every frame that is read, but for those of 0 */
     uint8_t internal; /* byte 0 of the node list: the type of the virtual internal subordinate */
     uint64_t mac;     /* the panel's own MAC and session, in its offers and ACKs */
     uint64_t session;
@@ -218,8 +218,8 @@ enum nadrelgos_event_number {
  * then what the firmware does next. "Listen on" means: the wait, where one is on, is still on. Drop the bytes and go on
  * listening until a frame ends the wait; when the reply timer has run out, call nadrelgos_quiet. "The exchange" is the
  * one by which a board joins: stages 8 to 13. Where more than one holds, the first in this order is given: 22; then in
- * setup 21, 13; in a join 12 to 16; in a discover 14, 15, 16, 11; in a turn 18, 19, 11; in a frame 1 to 5, 23, 6 to 9,
- * 11; in a quiet 20.
+ * setup 21, 13; in a join 12 to 16; in a discover 14, 15, 16, 11; in a turn 18, 19, 11; in a frame 1 to 4, 24, 5, 23,
+ * 6 to 9, 11; in a quiet 20.
  */
 enum nadrelgos_refusal_number {
     NADRELGOS_ACCEPTED = 0,
@@ -229,6 +229,12 @@ enum nadrelgos_refusal_number {
     NADRELGOS_OVER_LONG = 2,       /* its payload length, byte 9, is above 240 */
     NADRELGOS_LENGTH_MISMATCH = 3, /* not 12 bytes and byte 9 more. If this is common, frames are cut wrongly */
     NADRELGOS_BAD_CHECKSUM = 4,    /* its two sums are not 0 */
+
+    /* a frame: good, and of another system. Listen on. */
+    NADRELGOS_OTHER_SUBNET = 24, /* its subnet, byte 2, is neither ours nor 0. If this is common, another system is on
+                                    the line, as where two run through one conduit: see that they have two subnets, and
+                                    that no board has the other's. If it is given for our own boards, they have kept a
+                                    subnet of an earlier setup: they have ours once they have joined anew */
 
     /* a frame: good, and not what is awaited. Listen on. */
     NADRELGOS_NOT_FOR_US = 5,       /* its destination is not 255, the coordinator */
@@ -339,7 +345,7 @@ uint64_t nadrelgos_clear(struct nadrelgos_node *nodes, size_t nodes_count, size_
 /* The node list owed to the board at the position; a free position stays as it is. */
 uint64_t nadrelgos_mark(struct nadrelgos_node *nodes, size_t nodes_count, size_t position);
 
-/* What nadrelgos_find found. */
+/* What nadrelgos_find found. A frame of another subnet than ours or 0 counts as not good. */
 enum nadrelgos_finding_number {
     NADRELGOS_FOUND = 1,   /* a good frame */
     NADRELGOS_NOTHING = 2, /* no good frame begins at any start */
@@ -357,15 +363,18 @@ struct nadrelgos_finding {
  * The first good frame in bytes as the line brought them, where noise or several frames may stand between two silences.
  * It is in libfinder.a.
  *
+ *   ours                   our subnet, as setup was told it
  *   bytes, count           what came in. It is only read
  *   budget                 how many starts are tried at most: the time is bounded by it. count always suffices
  *
  * A start is a place with at least 12 bytes from it to the end; they are tried from the first on. One holds a good
- * frame if its payload length, the byte 9 places on, is at most 240, 12 bytes and that many more are there, and their
- * two sums are 0: nadrelgos_frame, given length bytes at bytes + start, never refuses them 1 to 4. After a frame a host
- * goes on at start + length, after NADRELGOS_SPENT at tried, with the bytes that are left.
+ * frame if its payload length, the byte 9 places on, is at most 240, 12 bytes and that many more are there, their two
+ * sums are 0, and its subnet, the byte 2 places on, is ours or 0: nadrelgos_frame, given length bytes at bytes + start,
+ * never refuses them 1 to 4 or 24. A frame of another system is passed over byte by byte, so that one of ours in its
+ * payload would be found. After a frame a host goes on at start + length, after NADRELGOS_SPENT at tried, with the bytes
+ * that are left.
  */
-struct nadrelgos_finding nadrelgos_find(const uint8_t *bytes, size_t count, size_t budget);
+struct nadrelgos_finding nadrelgos_find(uint8_t ours, const uint8_t *bytes, size_t count, size_t budget);
 
 /*
  * The parts of an answer, low byte first: the refusal's number, the answer, the board awaited, its exchange, the

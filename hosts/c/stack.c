@@ -42,7 +42,7 @@ struct call {
 
 /* By itself, so that the room for what it finds is not counted with the other calls. */
 __attribute__((noinline)) static void find(void) {
-    if (nadrelgos_find(capture, sizeof capture, sizeof capture).number != NADRELGOS_NOTHING) astray = true;
+    if (nadrelgos_find(LONGEST, capture, sizeof capture, sizeof capture).number != NADRELGOS_NOTHING) astray = true;
 }
 
 static void make(struct call *call) {

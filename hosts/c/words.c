@@ -29,6 +29,7 @@ const char *words_refusal(unsigned refusal) {
         "unexpected type", "bad echo", "bad method", "payload too long", "no room", "bad type", "bad MAC", "busy",
         "held", "full", "retired", "awaiting reply", "nobody listed", "not waiting", "bad pool", "state unfit",
         "not discovering",
+        "other subnet",
     };
     return refusal < COUNT(names) ? names[refusal] : "unknown";
 }

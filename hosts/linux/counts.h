@@ -5,7 +5,7 @@
 #include <stdint.h>
 
 /* The refusals' numbers are below this one. */
-enum { REFUSALS = 24 };
+enum { REFUSALS = 25 };
 
 struct counts {
     unsigned long offers, carried, misses, drops, joins;

@@ -56,7 +56,7 @@ static size_t finish(struct cutter *cutter, uint8_t *frame, size_t room) {
 size_t cutter_next(struct cutter *cutter, uint8_t *frame, size_t room) {
     size_t left = cutter->cut - cutter->at;
     const uint8_t *bytes = cutter->bytes + cutter->at;
-    struct nadrelgos_finding finding = nadrelgos_find(bytes, left, left);
+    struct nadrelgos_finding finding = nadrelgos_find(cutter->subnet, bytes, left, left);
     if (finding.number != NADRELGOS_FOUND) return finish(cutter, frame, room);
     size_t count = least(finding.length, room);
     memcpy(frame, bytes + finding.start, count);

@@ -1,6 +1,6 @@
 /*
  * Frames out of the line's bytes. A silence ends a stretch of them, and the proved finder (nadrelgos_find) looks
- * through the stretch: noise before, between and after frames costs no frame.
+ * through the stretch: noise before, between and after frames costs no frame, and neither do frames of another subnet.
  */
 #ifndef CUTTER_H
 #define CUTTER_H
@@ -14,6 +14,7 @@
 enum { CUTTER_MOST = 4096, CUTTER_ROOM = 2 * CUTTER_MOST };
 
 struct cutter {
+    uint8_t subnet; /* ours: frames of this one and of 0 are found */
     uint8_t bytes[CUTTER_ROOM];
     size_t count;  /* how many bytes there are */
     size_t cut;    /* the first so many are a stretch to be looked through; 0 where none is */

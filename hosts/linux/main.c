@@ -41,6 +41,7 @@ static void make_plan(const struct options *options) {
 static void make_line(const struct options *options) {
     serial.device = (struct device){.path = options->device, .baud = options->baud, .rs485 = options->rs485, .fd = -1};
     memcpy(serial.device.format, options->format, sizeof serial.device.format);
+    serial.cutter.subnet = options->subnet;
     serial.capture.fd = -1;
     serial.notes.fd = options->notes ? STDIN_FILENO : -1;
     pace_begin(&serial.pace, options->faster);

@@ -1,27 +1,40 @@
-//! Seeded captures of line bytes for the program `framelist`.
+//! Seeded captures of line bytes for the program `framelist`. They hold frames of
+//! its subnet, of subnet 0, and of other systems in the same conduit (C-14).
 
 use crate::checksum;
-use crate::finder::INPUT_LIMIT;
-use crate::frame::{self, Frame, MAX_PAYLOAD, OVERHEAD};
+use crate::finder::{INPUT_LIMIT, LISTED_SUBNET};
+use crate::frame::{self, Frame, ALL_SUBNETS, MAX_PAYLOAD, OVERHEAD, PAYLOAD_AT};
 use crate::prng::Prng;
 
 /// The example printed in 01.
 const PRINTED: [u8; 13] = [0x55, 2, 255, 3, 0, 0, 0, 0xA5, 0, 0, 0, 0x3D, 0x6D];
 
-/// One capture; the first eight indexes have fixed shapes.
+/// One capture; the first eleven indexes have fixed shapes.
 pub fn capture(seed: u64, index: u64) -> Vec<u8> {
     let mut rng = Prng::new(seed ^ index.wrapping_mul(0xD6E8_FEB8_6659_FD93));
     match index {
         0 => Vec::new(),
         1 => PRINTED.to_vec(),
-        2 => PRINTED[1..12].to_vec(),
-        3 => zeros_with_sums(),
-        4 => frame_ending_at(&mut rng, INPUT_LIMIT),
-        5 => frame_ending_at(&mut rng, INPUT_LIMIT + 1),
-        6 => whole_frames(&mut rng, 2 * INPUT_LIMIT),
-        7 => vec![0; 5000],
+        2 => printed_on(4),
+        3 => printed_on(ALL_SUBNETS),
+        4 => PRINTED[1..12].to_vec(),
+        5 => zeros_with_sums(),
+        6 => frame_ending_at(&mut rng, LISTED_SUBNET, INPUT_LIMIT),
+        7 => frame_ending_at(&mut rng, LISTED_SUBNET, INPUT_LIMIT + 1),
+        8 => whole_frames(&mut rng, 2 * INPUT_LIMIT),
+        9 => vec![0; 5000],
+        10 => (0..=255).flat_map(printed_on).collect(),
         _ => any(&mut rng),
     }
+}
+
+/// The printed example with another subnet byte, and check bytes that fit.
+fn printed_on(subnet: u8) -> Vec<u8> {
+    let mut bytes = PRINTED.to_vec();
+    bytes[3] = subnet;
+    let tail = checksum::check_bytes(&bytes[1..11]);
+    bytes[11..].copy_from_slice(&tail);
+    bytes
 }
 
 /// Mostly mixtures; now and then one piece alone, or a frame near the limit.
@@ -29,11 +42,46 @@ fn any(rng: &mut Prng) -> Vec<u8> {
     match rng.below(24) {
         0 => piece(rng),
         1 => {
-            let end = INPUT_LIMIT - 2 + rng.below(5);
-            frame_ending_at(rng, end)
+            let (end, subnet) = (INPUT_LIMIT - 2 + rng.below(5), any_subnet(rng));
+            frame_ending_at(rng, subnet, end)
         }
         _ => mixture(rng),
     }
+}
+
+/// A subnet that is listed.
+fn listed_subnet(rng: &mut Prng) -> u8 {
+    rng.pick(&[LISTED_SUBNET, LISTED_SUBNET, ALL_SUBNETS])
+}
+
+/// A subnet of another system: near the one listed, or any.
+fn other_subnet(rng: &mut Prng) -> u8 {
+    loop {
+        let any = rng.byte();
+        let subnet = rng.pick(&[2, 4, 255, any]);
+        if !frame::takes(LISTED_SUBNET, subnet) {
+            return subnet;
+        }
+    }
+}
+
+/// One that is listed in so many of a hundred cases.
+fn mixed_subnet(rng: &mut Prng, percent: usize) -> u8 {
+    if rng.chance(percent) {
+        listed_subnet(rng)
+    } else {
+        other_subnet(rng)
+    }
+}
+
+/// Most frames are ones to be listed.
+fn any_subnet(rng: &mut Prng) -> u8 {
+    mixed_subnet(rng, 90)
+}
+
+/// Where two systems meet, either is as likely.
+fn either_subnet(rng: &mut Prng) -> u8 {
+    mixed_subnet(rng, 50)
 }
 
 /// Ten zeros and AA AA (01), several times, between runs of zeros.
@@ -47,8 +95,8 @@ fn zeros_with_sums() -> Vec<u8> {
 }
 
 /// Noise, then a frame whose last byte is the given one, then more noise.
-fn frame_ending_at(rng: &mut Prng, end: usize) -> Vec<u8> {
-    let last = good_frame(rng);
+fn frame_ending_at(rng: &mut Prng, subnet: u8, end: usize) -> Vec<u8> {
+    let last = good_frame_on(rng, subnet);
     let mut line = rng.bytes(end - last.len());
     line.extend(last);
     let tail = rng.between(0, 600);
@@ -77,11 +125,11 @@ fn mixture(rng: &mut Prng) -> Vec<u8> {
 }
 
 fn piece(rng: &mut Prng) -> Vec<u8> {
-    match rng.below(13) {
+    match rng.below(15) {
         0 => noise(rng),
         1 => vec![rng.pick(&[0x00, 0xAA, 0xFF, 0x0C]); rng.between(1, 60)],
         2 | 3 => good_frame(rng),
-        4 => frame_of(rng, MAX_PAYLOAD),
+        4 => longest_frame(rng),
         5 => whole_frames(rng, 100),
         6 => cut_frame(rng),
         7 => damaged_frame(rng),
@@ -89,6 +137,8 @@ fn piece(rng: &mut Prng) -> Vec<u8> {
         9 => zeroed_frame(rng),
         10 => nested(rng),
         11 => damaged_outside(rng),
+        12 => side_by_side(rng),
+        13 => overlapping(rng),
         _ => [cut_frame(rng), good_frame(rng)].concat(),
     }
 }
@@ -99,6 +149,11 @@ fn noise(rng: &mut Prng) -> Vec<u8> {
 }
 
 fn good_frame(rng: &mut Prng) -> Vec<u8> {
+    let subnet = any_subnet(rng);
+    good_frame_on(rng, subnet)
+}
+
+fn good_frame_on(rng: &mut Prng, subnet: u8) -> Vec<u8> {
     let length = match rng.below(6) {
         0 => 0,
         1 => 17,
@@ -107,20 +162,20 @@ fn good_frame(rng: &mut Prng) -> Vec<u8> {
         4 => rng.pick(&[1, 238, 239, 240]),
         _ => rng.between(0, 40),
     };
-    frame_of(rng, length)
+    frame_of(rng, subnet, length)
 }
 
-fn frame_of(rng: &mut Prng, length: usize) -> Vec<u8> {
+fn frame_of(rng: &mut Prng, subnet: u8, length: usize) -> Vec<u8> {
     let payload = rng.bytes(length);
-    frame_around(rng, &payload)
+    frame_around(rng, subnet, &payload)
 }
 
-/// A frame with this payload and any header.
-fn frame_around(rng: &mut Prng, payload: &[u8]) -> Vec<u8> {
+/// A frame with this subnet, this payload and any other header.
+fn frame_around(rng: &mut Prng, subnet: u8, payload: &[u8]) -> Vec<u8> {
     let frame = Frame {
         destination: rng.pick(&[255, 0, 1, 2, 16, 17, 254]),
         source: rng.pick(&[255, 0, 1, 2, 16, 17, 254]),
-        subnet: rng.pick(&[0, 2, 3]),
+        subnet,
         method: rng.pick(&[0, 1, 2, 3, 4]),
         parameter1: rng.byte(),
         parameter2: rng.byte(),
@@ -133,6 +188,11 @@ fn frame_around(rng: &mut Prng, payload: &[u8]) -> Vec<u8> {
     let written = frame::write(&frame, &mut out).unwrap_or(0);
     out.truncate(written);
     out
+}
+
+fn longest_frame(rng: &mut Prng) -> Vec<u8> {
+    let subnet = any_subnet(rng);
+    frame_of(rng, subnet, MAX_PAYLOAD)
 }
 
 fn cut_frame(rng: &mut Prng) -> Vec<u8> {
@@ -179,11 +239,50 @@ pub fn zero_for_255(frame: &[u8]) -> Option<Vec<u8>> {
     (bytes != frame).then_some(bytes)
 }
 
-/// A frame inside a good frame's payload, which is not to be listed.
+/// A frame inside another's payload, or inside two. What lies inside a listed
+/// one is not to be listed; what lies inside one of another system is to be
+/// found, as if that were not there.
 fn nested(rng: &mut Prng) -> Vec<u8> {
-    let length = rng.between(0, 60);
-    let inner = frame_of(rng, length);
-    frame_around(rng, &inner)
+    let (subnet, length) = (either_subnet(rng), rng.between(0, 60));
+    let mut bytes = frame_of(rng, subnet, length);
+    for _ in 0..rng.between(1, 2) {
+        let (before, behind) = (few_bytes(rng), few_bytes(rng));
+        let subnet = either_subnet(rng);
+        bytes = frame_around(rng, subnet, &[before, bytes, behind].concat());
+    }
+    bytes
+}
+
+/// Mostly none.
+fn few_bytes(rng: &mut Prng) -> Vec<u8> {
+    let some = rng.between(1, 20);
+    let count = rng.pick(&[0, 0, some]);
+    rng.bytes(count)
+}
+
+/// Frames of two systems, one directly behind the other.
+fn side_by_side(rng: &mut Prng) -> Vec<u8> {
+    let mut line = Vec::new();
+    for _ in 0..rng.between(2, 4) {
+        let (subnet, length) = (either_subnet(rng), rng.between(0, 40));
+        line.extend(frame_of(rng, subnet, length));
+    }
+    line
+}
+
+/// A frame that begins in another's payload and ends behind it: the check bytes
+/// of the one are a part of the payload of the other.
+fn overlapping(rng: &mut Prng) -> Vec<u8> {
+    let length = rng.between(2, 60);
+    let inside = PAYLOAD_AT + rng.between(0, length - 2);
+    let (subnet, before) = (either_subnet(rng), few_bytes(rng));
+    let second = frame_of(rng, subnet, length);
+    let subnet = either_subnet(rng);
+    let first = frame_around(rng, subnet, &[&before[..], &second[..inside]].concat());
+    let mut line = [&first[..], &second[inside + 2..PAYLOAD_AT + length]].concat();
+    let tail = checksum::check_bytes(&line[PAYLOAD_AT + before.len()..]);
+    line.extend(tail);
+    line
 }
 
 /// A good frame inside a damaged one, which is to be found.
@@ -216,8 +315,17 @@ mod tests {
             let numbers: Vec<usize> = line.split(' ').map(|word| word.parse().unwrap()).collect();
             numbers[0] + 12 + numbers[4]
         };
-        assert_eq!(last(4).map(ends_at), Some(4096));
-        assert!(last(5).map(ends_at) < Some(4096));
+        assert_eq!(last(6).map(ends_at), Some(4096));
+        assert!(last(7).map(ends_at) < Some(4096));
+    }
+
+    #[test]
+    fn the_printed_example_is_listed_on_subnets_3_and_0() {
+        let listed = |index| finder::list(&capture(5, index));
+        assert_eq!(capture(5, 2)[..4], [0x55, 2, 255, 4]);
+        assert_eq!((listed(1), listed(2)), ("1 2 255 0 0\n".to_string(), String::new()));
+        assert_eq!(listed(3), listed(1));
+        assert_eq!(listed(10), "1 2 255 0 0\n40 2 255 0 0\n");
     }
 
     #[test]
@@ -225,9 +333,26 @@ mod tests {
         let mut rng = Prng::new(1);
         for _ in 0..50 {
             let zeroed = zeroed_frame(&mut rng);
-            assert!(frame::read(&zeroed).is_ok());
+            assert!(frame::read(&zeroed, zeroed[2]).is_ok());
             assert!(zeroed[zeroed.len() - 2..].contains(&0));
-            assert!(frame::read(&over_long(&mut rng)).is_err());
+            let long = over_long(&mut rng);
+            assert!(frame::read(&long, long[2]).is_err());
+        }
+    }
+
+    #[test]
+    fn overlapping_frames_are_both_good() {
+        let mut rng = Prng::new(2);
+        for _ in 0..50 {
+            let line = overlapping(&mut rng);
+            let first = OVERHEAD + usize::from(line[9]);
+            assert!(frame::read(&line[..first], line[2]).is_ok());
+            let ends_last = |start: &usize| {
+                let second = &line[*start..];
+                second.len() >= OVERHEAD && frame::read(second, second[2]).is_ok()
+            };
+            let second = (PAYLOAD_AT..line.len()).find(ends_last).unwrap();
+            assert!(second + PAYLOAD_AT < first && first < line.len());
         }
     }
 }

@@ -6,6 +6,7 @@ mod discoveries;
 mod indexes;
 mod required;
 mod retypings;
+mod subnets;
 
 pub use required::POOL_SIZES;
 
@@ -16,6 +17,7 @@ use crate::state::Phase;
 use cases::head;
 use indexes::Indexes;
 use retypings::Retypings;
+use subnets::Subnets;
 
 #[derive(Clone, Debug, Default)]
 pub struct Coverage {
@@ -28,6 +30,7 @@ pub struct Coverage {
     short: Option<Phase>,
     retypings: Retypings,
     indexes: Indexes,
+    subnets: Subnets,
     lines: u64,
     steps: u64,
     bytes: u64,
@@ -61,6 +64,9 @@ impl Coverage {
             self.cases.count(case);
         }
         for case in self.indexes.note(before, answer, &head, after) {
+            self.cases.count(case);
+        }
+        for case in self.subnets.note(before, &line.text, &head, after) {
             self.cases.count(case);
         }
         self.note_returns(before, &line.text, &head, after);

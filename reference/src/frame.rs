@@ -13,6 +13,8 @@ pub const PAYLOAD_AT: usize = 10;
 pub const OVERHEAD: usize = 12;
 /// 001, table 1: 0 to 240 bytes of payload.
 pub const MAX_PAYLOAD: usize = 240;
+/// 000, 6.2: the subnet of what is sent to all subnets.
+pub const ALL_SUBNETS: u8 = 0;
 
 /// The fields of one frame, with a payload of some kind; the length and the
 /// checksum follow from them.
@@ -33,14 +35,21 @@ pub struct Fields<P> {
 /// A frame whose payload is a part of other bytes.
 pub type Frame<'a> = Fields<&'a [u8]>;
 
-/// The reader: refusals 1 to 4 in that order, else the fields. The payload is
-/// a part of `bytes` (01, "The frame").
-pub fn read(bytes: &[u8]) -> Result<Frame<'_>, Refusal> {
+/// C-14: whether a frame with this subnet byte is taken on our subnet: it is
+/// ours, or 0.
+pub fn takes(ours: u8, subnet: u8) -> bool {
+    subnet == ours || subnet == ALL_SUBNETS
+}
+
+/// The reader on our subnet: refusals 1 to 4 in that order, then 24, else the
+/// fields. The payload is a part of `bytes` (01, "The frame"; C-14).
+pub fn read(bytes: &[u8], ours: u8) -> Result<Frame<'_>, Refusal> {
     refuse_if(bytes.len() < OVERHEAD, Refusal::Short)?;
     let length = usize::from(bytes[9]);
     refuse_if(length > MAX_PAYLOAD, Refusal::OverLong)?;
     refuse_if(bytes.len() != OVERHEAD + length, Refusal::LengthMismatch)?;
     refuse_if(!checksum::is_good(bytes), Refusal::BadChecksum)?;
+    refuse_if(!takes(ours, bytes[2]), Refusal::OtherSubnet)?;
     Ok(Frame {
         destination: bytes[0],
         source: bytes[1],
@@ -87,32 +96,69 @@ mod tests {
 
     const PRINTED: [u8; 12] = [2, 255, 3, 0, 0, 0, 0xA5, 0, 0, 0, 0x3D, 0x6D];
 
-    #[test]
-    fn the_printed_frame_is_read() {
-        let frame = read(&PRINTED).unwrap();
-        assert_eq!((frame.destination, frame.source, frame.subnet), (2, 255, 3));
-        assert_eq!((frame.node_type, frame.payload.len()), (165, 0));
+    /// The printed frame with another subnet byte, and check bytes that fit.
+    fn printed_on(subnet: u8) -> [u8; 12] {
+        let mut bytes = PRINTED;
+        bytes[2] = subnet;
+        let tail = checksum::check_bytes(&bytes[..10]);
+        bytes[10..].copy_from_slice(&tail);
+        bytes
     }
 
     #[test]
-    fn the_reader_refuses_1_to_4_as_printed() {
-        assert_eq!(read(&PRINTED[..11]), Err(Refusal::Short));
-        let mut long = [0u8; 253];
-        long[9] = 241;
-        assert_eq!(read(&long), Err(Refusal::OverLong));
-        let mut one = [0u8; 12];
-        one[9] = 1;
-        assert_eq!(read(&one), Err(Refusal::LengthMismatch));
-        let mut bad = PRINTED;
-        bad[11] = 0x6E;
-        assert_eq!(read(&bad), Err(Refusal::BadChecksum));
+    fn the_printed_frame_is_read() {
+        let frame = read(&PRINTED, 3).unwrap();
+        assert_eq!((frame.destination, frame.source, frame.subnet), (2, 255, 3));
+        assert_eq!((frame.node_type, frame.payload.len()), (165, 0));
+        assert_eq!(printed_on(3), PRINTED);
+    }
+
+    #[test]
+    fn the_printed_frame_is_refused_by_24_on_every_other_subnet() {
+        for ours in (0..=255).filter(|&ours| ours != 3) {
+            assert_eq!(read(&PRINTED, ours), Err(Refusal::OtherSubnet));
+        }
+        assert_eq!(read(&printed_on(4), 3), Err(Refusal::OtherSubnet));
+        assert_eq!(read(&printed_on(4), 4).map(|frame| frame.subnet), Ok(4));
+    }
+
+    #[test]
+    fn subnet_0_in_the_frame_is_read_on_every_subnet() {
+        for ours in 0..=255 {
+            assert_eq!(read(&printed_on(0), ours).map(|frame| frame.subnet), Ok(0));
+        }
+    }
+
+    #[test]
+    fn our_subnet_and_0_are_taken_and_no_other() {
+        for ours in 0..=255 {
+            let taken: Vec<u8> = (0..=255).filter(|&subnet| takes(ours, subnet)).collect();
+            let expected = if ours == 0 { vec![0] } else { vec![0, ours] };
+            assert_eq!(taken, expected);
+        }
+    }
+
+    #[test]
+    fn the_reader_refuses_1_to_4_as_printed_whatever_the_subnet() {
+        for ours in [3, 4, 0] {
+            assert_eq!(read(&PRINTED[..11], ours), Err(Refusal::Short));
+            let mut long = [0u8; 253];
+            (long[2], long[9]) = (3, 241);
+            assert_eq!(read(&long, ours), Err(Refusal::OverLong));
+            let mut one = [0u8; 12];
+            (one[2], one[9]) = (3, 1);
+            assert_eq!(read(&one, ours), Err(Refusal::LengthMismatch));
+            let mut bad = PRINTED;
+            bad[11] = 0x6E;
+            assert_eq!(read(&bad, ours), Err(Refusal::BadChecksum));
+        }
     }
 
     #[test]
     fn over_long_comes_before_a_length_that_does_not_match() {
         let mut bytes = [0u8; 12];
         bytes[9] = 255;
-        assert_eq!(read(&bytes), Err(Refusal::OverLong));
+        assert_eq!(read(&bytes, 0), Err(Refusal::OverLong));
     }
 
     #[test]
@@ -126,34 +172,53 @@ mod tests {
         assert_eq!(out, [9u8; 12]);
     }
 
+    /// A frame of which no two fields are alike.
+    fn varied(subnet: u8, payload: &[u8]) -> Frame<'_> {
+        Frame {
+            destination: 1,
+            source: 2,
+            subnet,
+            method: 4,
+            parameter1: 5,
+            parameter2: 6,
+            node_type: 7,
+            message_type: 8,
+            packet: 9,
+            payload,
+        }
+    }
+
     #[test]
     fn written_frames_read_back_and_the_rest_is_kept() {
         let payload: Vec<u8> = (0..240).collect();
         for length in [0, 1, 17, 239, 240] {
-            let frame = Frame {
-                destination: 1,
-                source: 2,
-                subnet: 3,
-                method: 4,
-                parameter1: 5,
-                parameter2: 6,
-                node_type: 7,
-                message_type: 8,
-                packet: 9,
-                payload: &payload[..length],
-            };
+            let frame = varied(3, &payload[..length]);
             let mut out = [0xEEu8; 260];
             let count = write(&frame, &mut out).unwrap();
             assert_eq!(count, 12 + length);
-            assert_eq!(read(&out[..count]), Ok(frame));
+            assert_eq!(read(&out[..count], 3), Ok(frame));
             assert!(out[count..].iter().all(|&byte| byte == 0xEE));
+        }
+    }
+
+    #[test]
+    fn written_frames_read_back_on_their_own_subnet_and_with_0_on_every_one() {
+        for subnet in 0..=255 {
+            let frame = varied(subnet, &[10, 11]);
+            let mut out = [0u8; 14];
+            assert_eq!(write(&frame, &mut out), Ok(14));
+            for ours in 0..=255 {
+                let read_back = subnet == ours || subnet == 0;
+                let expected = if read_back { Ok(frame) } else { Err(Refusal::OtherSubnet) };
+                assert_eq!(read(&out, ours), expected);
+            }
         }
     }
 
     #[test]
     fn reading_and_writing_turns_a_zero_check_byte_into_255() {
         let bytes = [0, 0, 0, 0, 0, 0x11, 0, 0, 0, 0, 0x44, 0];
-        let frame = read(&bytes).unwrap();
+        let frame = read(&bytes, 3).unwrap();
         let mut out = [0u8; 12];
         assert_eq!(write(&frame, &mut out), Ok(12));
         assert_eq!(out[..11], bytes[..11]);

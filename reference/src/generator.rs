@@ -7,12 +7,13 @@ mod faults;
 mod joins;
 mod mishaps;
 mod setups;
+mod subnets;
 mod words;
 
 pub use words::doubtful;
 
 use crate::coverage::{Coverage, POOL_SIZES};
-use crate::line::Line;
+use crate::line::{Kind, Line};
 use crate::panel::Panel;
 use crate::prng::Prng;
 use crate::script::{hex, Player};
@@ -26,6 +27,9 @@ const OPENING: usize = 24;
 const SHARES: [usize; 7] = [11, 25, 6, 15, 9, 19, 15];
 /// Of a hundred joins and drops, so many have a table behind them.
 const SHOWN: usize = 80;
+/// Of a hundred waits in which the other system was heard last, so many end
+/// with quiet at once (C-14).
+const NOTHING_ELSE: usize = 25;
 
 /// How much goes wrong.
 #[derive(Clone, Copy, PartialEq, Eq)]
@@ -44,6 +48,8 @@ pub struct Generator<'a> {
     late: Option<Vec<u8>>,
     /// The last line let a board come or go.
     moved: bool,
+    /// The last line was a frame of the other system.
+    overheard: bool,
     left: usize,
     coverage: Coverage,
     sink: &'a mut dyn FnMut(&str),
@@ -59,6 +65,7 @@ pub fn generate(seed: u64, count: usize, sink: &mut dyn FnMut(&str)) -> Coverage
         mode: Mode::Calm,
         late: None,
         moved: false,
+        overheard: false,
         left: 0,
         coverage: Coverage::default(),
         sink,
@@ -102,6 +109,7 @@ impl Generator<'_> {
         self.coverage.note(&before, &line, answer.as_deref(), &self.player.panel);
         self.moved =
             answer.map_or(false, |text| text.contains("joined") || text.contains("dropped"));
+        self.overheard = line.kind == Kind::OtherSubnet;
         self.remember_dropped(&before);
         (self.sink)(&line.text);
     }
@@ -200,6 +208,10 @@ impl Generator<'_> {
         }
         if self.rng.chance(3) {
             return self.oddity();
+        }
+        let waits = self.panel().coordinator.phase.awaited().is_some();
+        if self.overheard && waits && self.rng.chance(NOTHING_ELSE) {
+            return self.silence();
         }
         let percent = self.mishap_percent();
         let wrong = self.rng.chance(percent);

@@ -5,9 +5,10 @@
 //! "001" the Data Link Specification, "003" the API Reference and "design 7"
 //! the script language; "C-11" is the change request for the AutoNet exchange,
 //! "C-12" the one by which a board that joins again may have another type,
-//! "C-13" the one by which each record keeps its board's index and "C-23" the one
-//! that retired number 17, as they were settled. The choices made where these are
-//! silent or can be read in two ways stand in DECISIONS.md.
+//! "C-13" the one by which each record keeps its board's index, "C-14" the one by
+//! which frames of another subnet are not read and "C-23" the one that retired
+//! number 17, as they were settled. The choices made where these are silent or can
+//! be read in two ways stand in DECISIONS.md.
 
 #![forbid(unsafe_code)]
 

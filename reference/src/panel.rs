@@ -237,10 +237,11 @@ impl Panel {
         after.or_else(|| self.listed().next()).unwrap_or(0)
     }
 
-    /// Frame: 22, 1 to 5, 23, 6 to 9, then 11.
+    /// Frame: 22, 1 to 4, 24, 5, 23, 6 to 9, then 11. It is read on the subnet
+    /// of the setup (C-14).
     pub fn frame(&mut self, bytes: &[u8], out: &mut [u8]) -> Answer {
         self.check_fit()?;
-        let frame = frame::read(bytes)?;
+        let frame = frame::read(bytes, self.coordinator.subnet)?;
         refuse_if(frame.destination != COORDINATOR, Refusal::NotForUs)?;
         refuse_if(self.out_of_place(frame.message_type), Refusal::NotDiscovering)?;
         let (board, exchange) = self.awaited(frame.source)?;

@@ -25,6 +25,7 @@ pub enum Refusal {
     BadPool = 21,
     StateUnfit = 22,
     NotDiscovering = 23,
+    OtherSubnet = 24,
 }
 
 impl Refusal {

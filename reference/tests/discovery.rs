@@ -4,7 +4,7 @@
 mod common;
 
 use common::{ack_payload, bytes_of, goes_to, ready, refused, refused_frame, rest, transmit, turn};
-use common::{MAC, SESSION};
+use common::{MAC, SESSION, SUBNET};
 use reference::frame::{self, Frame};
 use reference::panel::{Action, Answer, Outcome, Panel, Settings};
 use reference::refusal::Refusal;
@@ -117,7 +117,7 @@ fn a_discovery_is_sent_to_all() {
     let wait = Action::Wait { board: 3, exchange: Exchange::Search };
     assert_eq!((outcome.action, outcome.written), (wait, 13));
     assert_eq!(out[..11], [0, 255, 0, 0, 0, 0, 165, 0x79, 0x20, 1, 0]);
-    assert!(frame::read(&out[..13]).is_ok());
+    assert!(frame::read(&out[..13], SUBNET).is_ok());
     assert_eq!(out[13..], [0xEE; 7]);
 }
 
@@ -153,7 +153,7 @@ fn the_ack_has_the_index_of_the_records_after_it() {
         identify(&mut panel, &NEW);
         let mut out = [0; 29];
         assert!(panel.frame(&bytes(9, 0xFB, &identified(&board)), &mut out).is_ok());
-        let ack = frame::read(&out).unwrap();
+        let ack = frame::read(&out, SUBNET).unwrap();
         assert_eq!((ack.destination, ack.source, ack.subnet), (9, 255, 3));
         assert_eq!((ack.parameter2, ack.message_type, ack.packet), (index, 0, 0x80));
         assert_eq!(ack.payload, ack_payload(MAC, SESSION));
@@ -236,7 +236,7 @@ fn what_is_not_examined_may_be_anything() {
     let odd = |source, message_type, payload| Frame {
         destination: 255,
         source,
-        subnet: 200,
+        subnet: SUBNET,
         method: 201,
         parameter1: 202,
         parameter2: 203,

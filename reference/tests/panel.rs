@@ -5,7 +5,7 @@
 mod common;
 
 use common::{ack_payload, bytes_of, goes_to, ready, refused, refused_frame, rest, transmit, turn};
-use common::{MAC, SESSION};
+use common::{MAC, SESSION, SUBNET};
 use reference::frame::{self, Frame};
 use reference::panel::{Action, Answer, Panel, Settings};
 use reference::refusal::Refusal;
@@ -140,7 +140,7 @@ fn offers_go_round_and_carry_mac_session_and_index() {
     for (board, address, index) in [(1, 2, 0), (2, 5, 0), (3, 9, 1), (1, 2, 0)] {
         let (named, exchange, bytes) = turn(&mut panel);
         assert_eq!((named, exchange), (board, Exchange::Offer));
-        let offer = frame::read(&bytes).unwrap();
+        let offer = frame::read(&bytes, SUBNET).unwrap();
         assert_eq!((offer.destination, offer.source, offer.subnet), (address, 255, 3));
         assert_eq!((offer.method, offer.parameter1, offer.parameter2), (0, 0, index));
         assert_eq!((offer.node_type, offer.message_type, offer.packet), (165, 0, 0x80));
@@ -157,7 +157,7 @@ fn lists_go_to_the_lowest_owed_with_packet_number_0() {
     for board in 1..=3 {
         let (named, exchange, bytes) = turn(&mut panel);
         assert_eq!((named, exchange), (board, Exchange::List));
-        let list = frame::read(&bytes).unwrap();
+        let list = frame::read(&bytes, SUBNET).unwrap();
         assert_eq!((list.message_type, list.packet), (0x14, 0));
         assert_eq!(list.parameter2, [0, 0, 1][board - 1]);
         assert_eq!(list.payload, [1, 2, 5, 5]);
@@ -189,7 +189,7 @@ fn the_ack_written_has_the_form_of_table_49() {
     let bytes = bytes_of(&from_awaited(&panel, 1, &[]));
     let mut out = [0xEE; 40];
     assert_eq!(panel.frame(&bytes, &mut out).unwrap().action, Action::Deliver);
-    let written = frame::read(&out[..29]).unwrap();
+    let written = frame::read(&out[..29], SUBNET).unwrap();
     assert_eq!((written.destination, written.source, written.parameter2), (5, 255, 1));
     assert_eq!((written.message_type, written.packet, written.method), (0, 0x80, 0));
     assert_eq!(written.payload, ack_payload(MAC, SESSION));
@@ -206,7 +206,7 @@ fn a_request_is_forwarded_and_its_response_returned() {
     let (board, exchange, bytes) = turn(&mut panel);
     let forward = Exchange::Forward { requester: 3, request_type: 3, acked: false };
     assert_eq!((board, exchange), (2, forward));
-    let sent = frame::read(&bytes).unwrap();
+    let sent = frame::read(&bytes, SUBNET).unwrap();
     assert_eq!((sent.destination, sent.source, sent.subnet), (5, 255, 3));
     assert_eq!((sent.method, sent.parameter1, sent.parameter2), (1, 100, 1));
     assert_eq!((sent.node_type, sent.message_type, sent.packet), (77, 3, 0x20));
@@ -223,7 +223,7 @@ fn a_request_is_forwarded_and_its_response_returned() {
 
     let (board, exchange, bytes) = turn(&mut panel);
     assert_eq!((board, exchange), (3, Exchange::Return));
-    let sent = frame::read(&bytes).unwrap();
+    let sent = frame::read(&bytes, SUBNET).unwrap();
     assert_eq!((sent.destination, sent.source, sent.subnet), (9, 255, 3));
     assert_eq!((sent.method, sent.parameter1, sent.parameter2), (200, 4, 0));
     assert_eq!((sent.node_type, sent.message_type, sent.packet), (5, 131, 1));
@@ -335,7 +335,7 @@ fn every_board_is_told_of_the_new_type_with_its_index_of_now() {
     for (board, index) in [(1, 0), (2, 0), (3, 1)] {
         let (named, exchange, bytes) = turn(&mut panel);
         assert_eq!((named, exchange), (board, Exchange::List));
-        let list = frame::read(&bytes).unwrap();
+        let list = frame::read(&bytes, SUBNET).unwrap();
         assert_eq!((list.payload, list.parameter2), (&[1, 3, 1, 3][..], index));
         let stale = bytes_of(&from_awaited(&panel, 0x94, &[1, 2, 1, 3]));
         refused_frame(&mut panel, Refusal::BadEcho, &stale);
@@ -492,7 +492,7 @@ fn indexes_that_are_wrong_together_are_refused_by_22() {
 // ---- each refusal -----------------------------------------------------
 
 #[test]
-fn frames_are_refused_by_1_to_6_in_that_order() {
+fn frames_are_refused_by_1_to_4_24_5_and_6_in_that_order() {
     let mut panel = with_boards(&[2, 5, 9], &[2, 5]);
     turn(&mut panel);
     let good = bytes_of(&from_awaited(&panel, 1, &[4, 4]));
@@ -505,12 +505,15 @@ fn frames_are_refused_by_1_to_6_in_that_order() {
     bytes[0] = 4;
     refused_frame(&mut panel, Refusal::BadChecksum, &bytes);
     let foreign = Frame { destination: 4, source: 77, ..from_awaited(&panel, 200, &[]) };
+    let overheard = Frame { subnet: 4, ..foreign };
+    refused_frame(&mut panel, Refusal::OtherSubnet, &bytes_of(&overheard));
     refused_frame(&mut panel, Refusal::NotForUs, &bytes_of(&foreign));
     let other = Frame { source: 5, ..from_awaited(&panel, 200, &[]) };
     refused_frame(&mut panel, Refusal::NotAwaited, &bytes_of(&other));
     panel.quiet().unwrap();
     refused_frame(&mut panel, Refusal::NotAwaited, &good);
     refused_frame(&mut panel, Refusal::NotForUs, &bytes_of(&foreign));
+    refused_frame(&mut panel, Refusal::OtherSubnet, &bytes_of(&overheard));
 }
 
 #[test]

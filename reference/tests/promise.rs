@@ -1,6 +1,7 @@
-//! Demand 3 and what C-11, C-12 and C-13 add to it, watched from outside: the
-//! model below sees only the lines of a generated script and their answers.
+//! Demand 3 and what C-11 to C-14 add to it, watched from outside: the model below
+//! sees only the lines of a generated script and their answers.
 
+use reference::checksum;
 use reference::generator;
 use reference::routing;
 use reference::script::{self, Player};
@@ -23,6 +24,7 @@ const LONGEST_EXCHANGE: usize = 6;
 #[derive(Default)]
 struct Watch {
     k: usize,
+    subnet: u8,
     internal: u8,
     boards: Vec<Seen>,
     awaited: usize,
@@ -39,6 +41,8 @@ struct Watch {
     discovered: u8,
     found: usize,
     retyped: usize,
+    /// The frames of another subnet.
+    overheard: usize,
 }
 
 impl Watch {
@@ -46,6 +50,9 @@ impl Watch {
     fn follow(&mut self, line: &str, answer: &str) {
         let words: Vec<&str> = answer.split(['\n', ' ']).collect();
         let step = line.split(' ').next().unwrap_or("");
+        if step == "frame" && self.k > 0 {
+            self.keeps_to_its_subnet(line, answer);
+        }
         match (step, &words[..]) {
             (_, ["refuse" | "bad", ..]) => return,
             ("table", _) => return self.shown(answer),
@@ -68,9 +75,22 @@ impl Watch {
     }
 
     fn start(&mut self, k: usize, line: &str) {
-        let (boards, internal) = (vec![Seen::default(); k + 1], word(line, 2).parse().unwrap());
-        let (found, retyped) = (self.found, self.retyped);
-        *self = Watch { k, internal, boards, found, retyped, ..Watch::default() };
+        let (subnet, internal) = (word(line, 1).parse().unwrap(), word(line, 2).parse().unwrap());
+        let boards = vec![Seen::default(); k + 1];
+        let Watch { found, retyped, overheard, .. } = *self;
+        let counts = Watch { found, retyped, overheard, ..Watch::default() };
+        *self = Watch { k, subnet, internal, boards, ..counts };
+    }
+
+    /// C-14: 24 is for a good frame whose subnet is neither ours nor 0, and for
+    /// no other. It is refused, so the board is not heard by it.
+    fn keeps_to_its_subnet(&mut self, line: &str, answer: &str) {
+        let bytes = script::pairs(word(line, 2)).unwrap_or_default();
+        let length = bytes.get(9).map_or(0, |&n| usize::from(n));
+        let whole = length <= 240 && bytes.len() == 12 + length;
+        let other = whole && checksum::is_good(&bytes) && ![self.subnet, 0].contains(&bytes[2]);
+        assert_eq!(answer == "refuse 24", other, "{line}: {answer}");
+        self.overheard += usize::from(other);
     }
 
     fn joined(&mut self, at: &str, node_type: u8, mac: u64) {
@@ -274,6 +294,6 @@ fn generated_scripts_keep_the_promise() {
                 assert!(addresses_and_macs_differ(&player));
             }
         });
-        assert!(drops > 20 && watch.found > 20 && watch.retyped > 20);
+        assert!(drops > 20 && watch.found > 20 && watch.retyped > 20 && watch.overheard > 200);
     }
 }

@@ -1,6 +1,6 @@
 /*
  * Frames of any kind in the exchange by which a board joins. What each is answered, and what it leaves, is foretold
- * here from the rules (the request C-11; API Reference, 6.6 to 6.8), and the call is held to it.
+ * here from the rules (the requests C-11 and C-14; API Reference, 6.6 to 6.8), and the call is held to it.
  */
 #include "frames.h"
 
@@ -142,6 +142,7 @@ static uint64_t foretell(uint8_t stage, size_t stake) {
     size_t length = received[AT_LENGTH];
     memcpy(&then, &lent, sizeof then);
     if (refusal) return refusal;
+    if (received[AT_SUBNET] != SUBNET && received[AT_SUBNET] != WIRE_ALL) return NADRELGOS_OTHER_SUBNET;
     if (received[AT_DESTINATION] != WIRE_PANEL) return NADRELGOS_NOT_FOR_US;
     if (received[AT_SOURCE] != awaited(stage, stake)) return NADRELGOS_NOT_AWAITED;
     switch (stage) {
@@ -189,10 +190,16 @@ static size_t draw_formed(uint8_t *payload, uint8_t *type) {
     }
 }
 
+/* Mostly our subnet, or everybody's; else any. */
+static uint8_t draw_subnet(void) {
+    if (!draw_below(8)) return (uint8_t)draw_below(256);
+    return draw_below(2) ? SUBNET : WIRE_ALL;
+}
+
 /* A good frame to the panel, mostly one that the exchange knows, from mostly the source that is awaited. */
 static void draw_frame(uint8_t stage, size_t stake) {
     uint8_t payload[WIRE_MOST], type;
-    struct sender from = {awaited(stage, stake), (uint8_t)draw_below(256), (uint8_t)draw_below(256)};
+    struct sender from = {awaited(stage, stake), draw_subnet(), (uint8_t)draw_below(256)};
     scatter(payload, sizeof payload);
     size_t length = draw_formed(payload, &type);
     if (!draw_below(8)) from.address = draw_below(2) ? 0 : (uint8_t)draw_below(256);
@@ -280,6 +287,67 @@ void frames_out_of_the_exchange(void) {
                 else
                     hold_refused(answer, NADRELGOS_NOT_DISCOVERING, NADRELGOS_NODES);
             }
+        }
+    }
+    end();
+}
+
+/* A frame that a stage which waits takes, in this subnet: mostly the ACK of the board awaited, after a list its echo, in
+   the exchange the response. */
+static void make_taken(uint8_t stage, uint8_t subnet) {
+    uint8_t payload[WIRE_MOST] = {CODE_ACK}, type = TYPE_R2R;
+    size_t length = R2R_LENGTH, stake = lent.coordinator.stand.board;
+    struct sender from = {awaited(stage, stake), subnet, 5};
+    wire_put_word(payload + 1, 100);
+    wire_put_word(payload + 9, 1);
+    if (stage == 2) {
+        const uint8_t list[] = {INTERNAL, 5, 5, 5};
+        memcpy(payload, list, sizeof list);
+        type = TYPE_LIST + TYPE_RESPONSE, length = sizeof list;
+    } else if (stage == SEARCH) {
+        payload[0] = 6;
+        type = FOUND, length = FOUND_LENGTH;
+    } else if (stage == PRESENT) {
+        type = IDENTIFIED, length = ID_LENGTH;
+    } else if (stage == ASSIGN) {
+        write_assignment(payload);
+        type = ASSIGNED, length = ASSIGN_LENGTH;
+    } else if (stage == 4) {
+        type = 3 + TYPE_RESPONSE; /* what make_fit has kept is of type 3 */
+    }
+    count = wire_frame(received, from, type, 0, 0, 0, payload, length);
+    room = NADRELGOS_ROOM;
+}
+
+/* Whether the panel waits in this stage; in the others it rests, or something is due. */
+static bool waits_in(uint8_t stage) {
+    return (stage >= 1 && stage <= 5) || (stage >= SEARCH && stage != IDENTIFY_DUE && stage != ASSIGN_DUE);
+}
+
+/* The same frame in every subnet: in ours and in 0 it gets one answer, no refusal where the stage waits; in every other
+   it gets 24 and leaves all as it was, and 4 where it is damaged too. */
+void frames_of_every_subnet(void) {
+    begin("a frame in every subnet and every stage");
+    for (uint8_t stage = 0; stage < STAGES; stage++) {
+        make_fit(stage);
+        make_taken(stage, SUBNET);
+        uint64_t taken = call();
+        hold((nadrelgos_refusal(taken) == NADRELGOS_ACCEPTED) == waits_in(stage), taken);
+        for (unsigned subnet = 0; subnet < 256; subnet++) {
+            bool is_ours = subnet == SUBNET || subnet == WIRE_ALL;
+            make_fit(stage);
+            make_taken(stage, (uint8_t)subnet);
+            keep();
+            uint64_t answer = call();
+            if (is_ours)
+                hold(answer == taken, answer);
+            else
+                hold_refused(answer, NADRELGOS_OTHER_SUBNET, NADRELGOS_NODES);
+            make_fit(stage);
+            make_taken(stage, (uint8_t)subnet);
+            received[AT_TYPE] ^= 1;
+            keep();
+            hold_refused(call(), NADRELGOS_BAD_CHECKSUM, NADRELGOS_NODES);
         }
     }
     end();

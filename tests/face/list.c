@@ -4,8 +4,8 @@
 
 #include <stdio.h>
 
-/* framelist's limit, and the starts that each call may try */
-enum { MOST = 4096, BUDGET = 7 };
+/* framelist's limit and subnet, and the starts that each call may try */
+enum { MOST = 4096, SUBNET = 3, BUDGET = 7 };
 
 static void list(size_t start, const uint8_t *frame) {
     printf("%u %u %u %u %u\n", (unsigned)start, frame[0], frame[1], frame[7], frame[9]);
@@ -16,7 +16,7 @@ int main(void) {
     size_t count = fread(bytes, 1, sizeof bytes, stdin);
     struct nadrelgos_finding finding = {.number = NADRELGOS_SPENT};
     for (size_t at = 0; finding.number != NADRELGOS_NOTHING;) {
-        finding = nadrelgos_find(bytes + at, count - at, BUDGET);
+        finding = nadrelgos_find(SUBNET, bytes + at, count - at, BUDGET);
         if (finding.number == NADRELGOS_FOUND) list(at + finding.start, bytes + at + finding.start);
         at += finding.number == NADRELGOS_FOUND ? finding.start + finding.length : finding.tried;
     }

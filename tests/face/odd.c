@@ -384,6 +384,7 @@ int main(void) {
     never_looks_at_the_rest();
     frames_in_the_exchange();
     frames_out_of_the_exchange();
+    frames_of_every_subnet();
     refuses_other_counts();
     refuses_other_events();
     sets_up_over_garbage();

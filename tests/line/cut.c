@@ -1,8 +1,8 @@
 /*
- * The cutter (hosts/linux/cutter.h) on frames with noise before, between and after them, in stretches that a silence
- * ends and in ones that are cut because they are too long: what a plain search finds in the whole stretch is handed
- * over, once and in its order, and a stretch without a frame as it came. The bytes come in pieces of any size. They are
- * the same each time.
+ * The cutter (hosts/linux/cutter.h) on frames with noise before, between and after them, and another system's frames
+ * among them, in stretches that a silence ends and in ones that are cut because they are too long: what a plain search
+ * finds in the whole stretch is handed over, once and in its order, and a stretch without a frame as it came, up to the
+ * longest frame. The bytes come in pieces of any size. They are the same each time.
  */
 #include "cutter.h"
 #include "wire.h"
@@ -10,7 +10,7 @@
 #include <stdio.h>
 #include <string.h>
 
-enum { STRETCHES = 300, FRAMES = 120, MOST_BYTES = FRAMES * (WIRE_MOST + 40) };
+enum { STRETCHES = 300, FRAMES = 120, MOST_BYTES = FRAMES * (WIRE_MOST + 40), SUBNET = 3, OTHER = 4 };
 
 static uint64_t drawn = 485;
 
@@ -34,13 +34,20 @@ static void put_noise(unsigned most) {
     for (unsigned i = draw_below(most + 1); i > 0; i--) bytes[count++] = noise();
 }
 
-/* A frame; in another's payload there is none to be found, but where that one's end has not come yet. */
+/* A sender in our subnet, in everybody's, or in another system's. */
+static struct sender draw_sender(void) {
+    static const uint8_t subnets[] = {SUBNET, SUBNET, SUBNET, WIRE_ALL, OTHER};
+    return (struct sender){(uint8_t)draw_below(256), subnets[draw_below(sizeof subnets)], (uint8_t)draw_below(256)};
+}
+
+/* A frame; in another's payload there is none to be found, but where that one's end has not come yet, or where it is of
+   another system. */
 static void put_frame(bool has_inner) {
     uint8_t payload[WIRE_MOST];
-    struct sender from = {(uint8_t)draw_below(256), 3, (uint8_t)draw_below(256)};
+    struct sender from = draw_sender();
     size_t length = has_inner ? WIRE_AROUND : draw_below(WIRE_MOST - WIRE_AROUND + 1);
     for (size_t i = 0; i < length; i++) payload[i] = noise();
-    if (has_inner) wire_frame(payload, from, 0, 0, 0, 0, payload, 0);
+    if (has_inner) wire_frame(payload, draw_sender(), 0, 0, 0, 0, payload, 0);
     count += wire_frame(bytes + count, from, (uint8_t)draw_below(256), 0, 0, 0, payload, length);
 }
 
@@ -49,7 +56,8 @@ static void find_frames(void) {
     frames = 0;
     for (size_t at = 0; at + WIRE_AROUND <= count;) {
         size_t length = WIRE_AROUND + (size_t)bytes[at + AT_LENGTH];
-        bool is_frame = length <= WIRE_MOST && length <= count - at && wire_good(bytes + at, length);
+        bool is_ours = bytes[at + AT_SUBNET] == SUBNET || bytes[at + AT_SUBNET] == WIRE_ALL;
+        bool is_frame = is_ours && length <= WIRE_MOST && length <= count - at && wire_good(bytes + at, length);
         if (is_frame) {
             starts[frames] = at;
             ends[frames++] = at + length;
@@ -74,7 +82,8 @@ static long take_all(struct cutter *cutter, long next) {
     while (next >= 0 && cutter_has_stretch(cutter)) {
         size_t length = cutter_next(cutter, frame, sizeof frame);
         if (length == 0) continue;
-        size_t start = frames ? starts[next] : 0, end = frames ? ends[next] : count;
+        size_t whole = count < sizeof frame ? count : sizeof frame; /* where there is no frame in it */
+        size_t start = frames ? starts[next] : 0, end = frames ? ends[next] : whole;
         bool is_next = (size_t)next < (frames ? frames : 1) && length == end - start;
         next = is_next && memcmp(frame, bytes + start, length) == 0 ? next + 1 : -1;
     }
@@ -98,7 +107,7 @@ static bool hold(struct cutter *cutter) {
 }
 
 int main(void) {
-    static struct cutter cutter;
+    static struct cutter cutter = {.subnet = SUBNET};
     unsigned long all = 0, wrong = 0, long_ones = 0;
     for (unsigned i = 0; i < STRETCHES; i++) {
         make_stretch(i % 2 ? FRAMES - 1 : 4);

@@ -86,6 +86,19 @@ def single_misses_drop_nobody(panel, boards, homes):
     check(not panel.events("dropped", first), "a board was dropped, though never three in a row were missed")
 
 
+def another_system_is_not_heard(panel, boards, homes):
+    """Two messages to the furnace are answered by another system's board at its address: refused 24, and two misses."""
+    position = homes["furnace"]["position"]
+    first = place = answers(panel, position, panel.place())
+    boards.order("elsewhere furnace 2")
+    for misses in 1, 2:
+        place, refused = panel.event("refused", place, call="frame")
+        check(refused["number"] == 24, f"another system's frame is refused {refused['number']}")
+        place = panel.event("quiet", place, position=position, misses=misses)[0]
+    answers(panel, position, place)
+    check(not panel.events("dropped", first), "a board was dropped, though it answered after two misses")
+
+
 def unplugged_is_dropped(panel, boards, homes):
     """An unplugged board is dropped at its third unanswered message in a row, and not before. Plugged in again it has its address."""
     home, place = homes["furnace"], answers(panel, homes["furnace"]["position"], panel.place())
@@ -305,6 +318,7 @@ def main():
     homes = all_are_found(panel, boards)
     heat_is_carried(panel, boards, homes)
     single_misses_drop_nobody(panel, boards, homes)
+    another_system_is_not_heard(panel, boards, homes)
     unplugged_is_dropped(panel, boards, homes)
     before_noise = panel.since(0)
     noise_costs_no_board(panel, boards, homes)

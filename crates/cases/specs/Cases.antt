@@ -1,7 +1,7 @@
 -- The cases marked * (01, "Frames and series to try"), one row each: what is asked, and what the rule book says.
 use Prim.Native.Nat.{ℕ, _+_}
 use mathlib.Core.List.{List, [], _∷_, _++_, map}
-use lib.ListN.{length, replicate}
+use lib.ListN.{replicate}
 use lib.Dec.{eqb}
 use Rattle.ground.specs.Choose.{choose}
 use Rattle.ground.specs.Below.{upFrom}
@@ -11,7 +11,6 @@ use Rattle.board.specs.declared.Node.{Node}
 use Rattle.board.specs.Node.{none}
 use Rattle.board.specs.Change.{joinedNode}
 use Rattle.nodelist.specs.List.{nodeList}
-use Rattle.coordinator.specs.declared.Coordinator.{Coordinator}
 use Rattle.coordinator.specs.Fresh.{fresh, blankTable}
 use Rattle.steps.specs.declared.Event.{Event}
 use Rattle.steps.specs.declared.Event.the-variants.{Join, Turn, Frame, Quiet}
@@ -19,7 +18,7 @@ use Rattle.steps.specs.After.{After}
 use Rattle.steps.specs.Start.{startOf, setupOf}
 use Rattle.steps.specs.Step.{stepOf}
 
--- what a case asks: the check bytes of bytes; what the reader says of a frame; the list of an internal type and the types at the positions; what setup says of a pool;
+-- what a case asks: the check bytes of bytes; what the reader says of a frame, in subnet 3 (02, C-14); the list of an internal type and the types at the positions; what setup says of a pool;
 -- what the last step of a series says, and whom it drops
 pub data Case : Type 0 where
   checks : List ℕ → Case
@@ -48,7 +47,7 @@ played a (e ∷ es) = played (stepOf (a .coordinator) (a .nodes) e ack 252) es
 -- what the definitions give for a case, as numbers
 unfoldable pub given : Case → List ℕ
 given (checks bytes) = checkBytes bytes
-given (reads bytes) = reading bytes .number ∷ []
+given (reads bytes) = reading 3 bytes .number ∷ []
 given (lists internal kinds) = nodeList internal (map boardOf kinds ++ replicate 37 none)
 given (pools pool) = begun pool .says .number ∷ []
 given (plays events) = (played (begun (2 ∷ 5 ∷ 9 ∷ [])) events .says .number) ∷ (played (begun (2 ∷ 5 ∷ 9 ∷ [])) events .dropped) ∷ []

@@ -11,7 +11,8 @@ use Rattle.ground.specs.Choose.{choose}
 use Rattle.ground.proofs.Choices.{both}
 use Rattle.refusal.specs.Refusal.{Told}
 use Rattle.frame.specs.declared.Header.{Header}
-use Rattle.frame.specs.Frame.{frameOf}
+use Rattle.frame.specs.Frame.{takesSubnet, frameOf}
+use Rattle.frame.proofs.Subnets.{takes-own, takes-zero}
 use Rattle.frame.proofs.RoundTrip.{reads-back}
 use Rattle.board.specs.declared.Node.{Node}
 use Rattle.board.specs.Table.{at}
@@ -40,10 +41,10 @@ use Rattle.series.specs.Wire.{isSending, addressed, isTypeOf, AsTold, OnTheWire
 use Rattle.series.specs.Ours.{ours}
 use Rattle.lasting.proofs.Taken.{by-accepted}
 
--- a frame of a short payload, whose header goes where the answer says, with a type of its exchange
-frame-told : (s : Setup) (says : Told) (h : Header) (p : List ℕ) → length p ≤ 240 → h .destination ≡ addressed s says → isTypeOf (waitsIn says) (h .message) ≡ true → AsTold s says (frameOf h p)
+-- a frame of a short payload, whose header goes to our subnet or to all, where the answer says, with a type of its exchange
+frame-told : (s : Setup) (says : Told) (h : Header) (p : List ℕ) → length p ≤ 240 → takesSubnet (s .subnet) (h .subnet) ≡ true → h .destination ≡ addressed s says → isTypeOf (waitsIn says) (h .message) ≡ true → AsTold s says (frameOf h p)
 unfolding frameOf
-frame-told s says h p small to type = record { good = reads-back h p small; to = to; type = type }
+frame-told s says h p small taken to type = record { good = reads-back h p small (s .subnet) taken; to = to; type = type }
 
 -- what a step writes, by what it leaves
 abbrev Tells : After → Type 0
@@ -56,26 +57,26 @@ module _ (c : Coordinator) (t : List Node) where
   own-told = go (ltb 0 (owedTo c t))
     where
       go : (b : Bool) → Tells (sent (choose b (dueList c t (owedTo c t)) (dueOffer c t (nextListed t (c .setup .k) (c .last)))))
-      go true = frame-told _ _ _ _ (list-small (c .setup .internal) t) refl refl
-      go false = frame-told _ _ _ _ (signed-small (c .setup) offerCode) refl refl
+      go true = frame-told _ _ _ _ (list-small (c .setup .internal) t) (takes-own (c .setup .subnet)) refl refl
+      go false = frame-told _ _ _ _ (signed-small (c .setup) offerCode) (takes-own (c .setup .subnet)) refl refl
 
   -- a forward and a return
   forward-told : (b q : ℕ) → Request (c .kept) → Tells (sent (dueCarried c t b Forward q (at t q .index)))
   unfolding choose toBoard
-  forward-told b q m = frame-told _ _ _ _ (omega (arith, length-take (c .kept .length) (c .kept .payload), m .payload)) refl (both (leb 1 (c .kept .message)) (leb (c .kept .message) 127) (le-leb _ _ (m .message .from)) (le-leb _ _ (m .message .upTo)))
+  forward-told b q m = frame-told _ _ _ _ (omega (arith, length-take (c .kept .length) (c .kept .payload), m .payload)) (takes-own (c .setup .subnet)) refl (both (leb 1 (c .kept .message)) (leb (c .kept .message) 127) (le-leb _ _ (m .message .from)) (le-leb _ _ (m .message .upTo)))
 
   return-told : (b : ℕ) → Response (c .kept) → Tells (sent (dueCarried c t b Return 0 0))
   unfolding choose toBoard
-  return-told b m = frame-told _ _ _ _ (omega (arith, length-take (c .kept .length) (c .kept .payload), m .payload)) refl (le-leb _ _ (m .message))
+  return-told b m = frame-told _ _ _ _ (omega (arith, length-take (c .kept .length) (c .kept .payload), m .payload)) (takes-own (c .setup .subnet)) refl (le-leb _ _ (m .message))
 
   -- the two frames that the exchange by which a board joins has due
   part-told : (part : Part) (position : ℕ) → Tells (sent (dueSeek part c t position))
   unfolding choose ownHeader broadcastHeader
   part-told Search position = own-told
-  part-told IdentifyDue position = frame-told _ _ _ _ (omega arith) refl refl
+  part-told IdentifyDue position = frame-told _ _ _ _ (omega arith) (takes-own (c .setup .subnet)) refl refl
   part-told Identify position = own-told
   part-told Present position = own-told
-  part-told AssignDue position = frame-told _ _ _ _ (assignment-small (c .setup) position (c .found .mac) (c .found .session)) refl refl
+  part-told AssignDue position = frame-told _ _ _ _ (assignment-small (c .setup) position (c .found .mac) (c .found .session)) (takes-zero (c .setup .subnet)) refl refl
   part-told Assign position = own-told
 
   module _ (fit : fits c t ≡ true) where
@@ -95,7 +96,7 @@ module _ (c : Coordinator) (t : List Node) where
 
   discover-told : (room : ℕ) → isAccepted (discoverOf c t room .says) ≡ true → Tells (discoverOf c t room)
   unfolding discoverOf choose broadcastHeader
-  discover-told room = by-accepted c t Tells (discoverRules c t room) (searched c t) (λ _ _. frame-told _ _ discoveryHeader everyKind (omega arith) refl refl)
+  discover-told room = by-accepted c t Tells (discoverRules c t room) (searched c t) (λ _ _. frame-told _ _ discoveryHeader everyKind (omega arith) (takes-zero (c .setup .subnet)) refl refl)
 
 -- in any series
 pub on-the-wire : OnTheWire ours

@@ -1,8 +1,8 @@
 -- What a finding says tells it apart, and the numbers that the code works out are those of the definition.
-use Prim.Native.Nat.{ℕ, _+_, _≤_, _<_, min}
+use Prim.Native.Nat.{ℕ, _+_, _-_, _≤_, _<_, min}
 use native.Mathlib.Omega.{arith}
 use mathlib.Core.Path.{_≡_, refl, sym, ap, _∙_}
-use mathlib.Core.List.{List, [], _∷_}
+use mathlib.Core.List.{List}
 use lib.ListN.{getD}
 use lib.Dec.{ltb}
 use borrow.Author.Tests.{lt-ltb, le-ltb}
@@ -35,27 +35,27 @@ same-told (Spent a) (Nothing x) e = differ (number e) (λ n. omega arith)
 same-told (Spent a) (Spent x) e = ap Spent (value 0 e)
 
 -- the numbers that the code works out are those of the definition
-module _ (s : List ℕ) (budget n m a : ℕ) (starts-is : n ≡ starts s) (limit-is : m ≡ min budget n) (first-is : a ≡ firstOr m (holdsFrame s) (upFrom 0 m)) where
+module _ (ours : ℕ) (s : List ℕ) (budget n m a : ℕ) (starts-is : n ≡ starts s) (limit-is : m ≡ min budget n) (first-is : a ≡ firstOr m (holdsFrame ours s) (upFrom 0 m)) where
   the-limit : m ≡ limit s budget
   the-limit = limit-is ∙ ap (min budget) starts-is
 
-  the-first : a ≡ firstFrame s budget
-  the-first = first-is ∙ ap (λ (x : ℕ). firstOr x (holdsFrame s) (upFrom 0 x)) the-limit
+  the-first : a ≡ firstFrame ours s budget
+  the-first = first-is ∙ ap (λ (x : ℕ). firstOr x (holdsFrame ours s) (upFrom 0 x)) the-limit
 
   -- the test that tells Found is the definition's
-  the-test : ltb a m ≡ ltb (firstFrame s budget) (limit s budget)
-  the-test = ap (λ (x : ℕ). ltb x m) the-first ∙ ap (λ (x : ℕ). ltb (firstFrame s budget) x) the-limit
+  the-test : ltb a m ≡ ltb (firstFrame ours s budget) (limit s budget)
+  the-test = ap (λ (x : ℕ). ltb x m) the-first ∙ ap (λ (x : ℕ). ltb (firstFrame ours s budget) x) the-limit
 
-  pub says-found : (k : ℕ) → k ≡ lengthAt s a → a < m → found a (12 + k) (a + 1) ≡ finding s budget
+  pub says-found : (k : ℕ) → k ≡ lengthAt s a → a < m → found a (12 + k) (a + 1) ≡ finding ours s budget
   unfolding finding
   says-found k e h =
       choose-yes _ _ _ _ (sym the-test ∙ lt-ltb a m h)
       (ap (λ (x : ℕ). found a (12 + x) (a + 1)) e ∙ ap (λ (x : ℕ). found x (12 + lengthAt s x) (x + 1)) the-first)
 
-  pub says-spent : m ≤ a → budget < n → spent budget ≡ finding s budget
+  pub says-spent : m ≤ a → budget < n → spent budget ≡ finding ours s budget
   unfolding finding
   says-spent h l = choose-no _ _ _ _ (sym the-test ∙ le-ltb a m h) (choose-yes _ _ _ _ (ap (ltb budget) (sym starts-is) ∙ lt-ltb budget n l) refl)
 
-  pub says-nothing : m ≤ a → n ≤ budget → nothing n ≡ finding s budget
+  pub says-nothing : m ≤ a → n ≤ budget → nothing n ≡ finding ours s budget
   unfolding finding
   says-nothing h l = choose-no _ _ _ _ (sym the-test ∙ le-ltb a m h) (choose-no _ _ _ _ (ap (ltb budget) (sym starts-is) ∙ le-ltb budget n l) (ap nothing starts-is))

@@ -1,4 +1,5 @@
 pub mod Laws
+pub mod Begins
 pub mod Trail
 pub mod Near
 pub mod Exactly

@@ -4,19 +4,14 @@ use native.Mathlib.Omega.{arith}
 use native.Mathlib.Decide.{ℕ-discrete}
 use native.Mathlib.Numerals.{add-one}
 use mathlib.Core.Path.{_≡_, refl, sym, ap, _∙_}
-use mathlib.Core.Bool.{Bool, true, false, _&&_}
 use mathlib.Core.List.{List, [], _∷_}
 use lib.ListN.{length, getD, set, take, drop, replicate, length-drop, length-set}
 use lib.Seq.{take-suc, take-add, length-take-le, getD-set-same, getD-set-other}
-use lib.Dec.{leb}
-use borrow.Author.Tests.{leb-true}
-use Rattle.ground.proofs.Choices.{and-left, and-right, and-yes, and-no}
 use Rattle.fletcher.specs.declared.Sums.{Sums}
 use Rattle.fletcher.specs.Fletcher.{isGood}
 use Rattle.fletcher.specs.Joined.{isGoodRun, unreduced}
 use Rattle.fletcher.proofs.Unreduced.{together, unreduced-append, good-unreduced}
-use Rattle.finder.specs.Finder.{lengthAt, holdsFrame}
-use Rattle.finder.specs.Trail.{hasRoom, sumsTo, apart, slot, NotedAt, NotedTo}
+use Rattle.finder.specs.Trail.{sumsTo, apart, slot, NotedAt, NotedTo}
 
 -- from one place to the next both sums grow by the byte between, and the second by the first
 next : (s : List ℕ) (k : ℕ) → k < length s → sumsTo s (suc k) ≡ record { first = sumsTo s k .first + getD s k 0; second = sumsTo s k .second + (sumsTo s k .first + getD s k 0) }
@@ -112,24 +107,3 @@ module _ (s : List ℕ) (at long : ℕ) (inside : at + long ≤ length s) where
 
         two : after .second - before .second - long * before .first ≡ unreduced (take long (drop at s)) .second
         two = omega (arith, second)
-
--- a start holds a frame where one has room, and is good
-and-grouped : (a b c : Bool) → (a && (b && c)) ≡ (a && b && c)
-and-grouped true b c = refl
-and-grouped false b c = refl
-
-pub with-room : (s : List ℕ) (i : ℕ) (good : Bool) → hasRoom s i ≡ true → good ≡ isGood (take (12 + lengthAt s i) (drop i s)) → good ≡ holdsFrame s i
-unfolding holdsFrame
-with-room s i good h e = and-yes (hasRoom s i) _ good h e ∙ sym (and-grouped (leb (lengthAt s i) 240) _ _)
-
-pub without-room : (s : List ℕ) (i : ℕ) → hasRoom s i ≡ false → false ≡ holdsFrame s i
-unfolding holdsFrame
-without-room s i h = and-no (hasRoom s i) _ h ∙ sym (and-grouped (leb (lengthAt s i) 240) _ _)
-
--- what room says of a start's n
-pub record Room (s : List ℕ) (i : ℕ) : Type 0 where
-  pub small : lengthAt s i ≤ 240
-  pub inside : i + (12 + lengthAt s i) ≤ length s
-
-pub room : (s : List ℕ) (i : ℕ) → i ≤ length s → hasRoom s i ≡ true → Room s i
-room s i l h = record { small = leb-true _ _ (and-left (leb (lengthAt s i) 240) (leb (12 + lengthAt s i) (length s - i)) h); inside = omega (arith, leb-true (12 + lengthAt s i) (length s - i) (and-right (leb (lengthAt s i) 240) (leb (12 + lengthAt s i) (length s - i)) h)) }

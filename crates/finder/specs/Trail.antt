@@ -8,11 +8,16 @@ use lib.Dec.{leb}
 use Rattle.fletcher.specs.declared.Sums.{Sums}
 use Rattle.fletcher.specs.declared.Run.{Run}
 use Rattle.fletcher.specs.Joined.{unreduced}
-use Rattle.finder.specs.Finder.{lengthAt}
+use Rattle.frame.specs.Frame.{takesSubnet}
+use Rattle.finder.specs.Finder.{lengthAt, subnetAt}
 
--- a frame can begin at start i: its n is at most 240 and 12 + n bytes are there (01, "Finder")
+-- a frame has room at start i: its n is at most 240 and 12 + n bytes are there (01, "Finder")
 abbrev pub hasRoom : List ℕ → ℕ → Bool
 hasRoom s i = leb (lengthAt s i) 240 && leb (12 + lengthAt s i) (length s - i)
+
+-- a frame that we take can begin there, before its sums are looked at (02, C-14)
+abbrev pub canBegin : ℕ → List ℕ → ℕ → Bool
+canBegin ours s i = takesSubnet ours (subnetAt s i) && hasRoom s i
 
 -- the sums over the bytes before place k, with no remainder taken (house)
 abbrev pub sumsTo : List ℕ → ℕ → Sums

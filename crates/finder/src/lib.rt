@@ -1,4 +1,5 @@
-// Finds the first good frame in a stretch of line bytes, trying no more starts than the budget allows.
+// Finds the first good frame in a stretch of line bytes, trying no more starts than the budget allows. A frame whose subnet is
+// neither ours nor 0 is passed over as if it were not good.
 use fletcher::Run;
 use fletcher::Sums;
 ghost use mathlib.Core.Path.{_≡_};
@@ -8,7 +9,7 @@ ghost use Rattle.ground.specs.Below.{firstOr, upFrom};
 ghost use Rattle.fletcher.specs.Fletcher.{isGood};
 ghost use Rattle.finder.specs.Finder.{lengthAt, holdsFrame, finding, told};
 ghost use Rattle.finder.specs.Numbers.{findNumbers};
-ghost use Rattle.finder.specs.Trail.{hasRoom, sumsTo, apart, NotedAt, NotedTo};
+ghost use Rattle.finder.specs.Trail.{hasRoom, canBegin, sumsTo, apart, NotedAt, NotedTo};
 
 // What looking finds, and how many starts were tried: the found one counted, all of them, or the whole budget.
 pub enum Finding {
@@ -46,7 +47,7 @@ fn length_at(bytes: &[u8], at: usize) -> usize
     bytes[i] as usize
 }
 
-// Whether a frame can begin here: its payload is not too long, and it ends before the stretch does.
+// Whether a frame has room here: its payload is not too long, and it ends before the stretch does.
 fn has_room(bytes: &[u8], at: usize) -> bool
     requires { ⌜ at + 12 ≤ length (now bytes) ⌝ }
     ensures { λ r. ⌜ r ≡ hasRoom (now (bytes .entry)) at ⌝ }
@@ -59,12 +60,25 @@ fn has_room(bytes: &[u8], at: usize) -> bool
     }
 }
 
-// Whether a good frame begins here, by its own sums.
-fn holds_frame(bytes: &[u8], at: usize) -> bool
+// Whether a frame that we take can begin here. Its subnet is asked first: in noise hardly any start has ours, or 0.
+fn can_begin(ours: u8, bytes: &[u8], at: usize) -> bool
     requires { ⌜ at + 12 ≤ length (now bytes) ⌝ }
-    ensures { λ r. ⌜ r ≡ holdsFrame (now (bytes .entry)) at ⌝ }
+    ensures { λ r. ⌜ r ≡ canBegin ours (now (bytes .entry)) at ⌝ }
 {
-    if has_room(bytes, at) {
+    let i = at + 2;
+    if frame::takes_subnet(ours, bytes[i]) {
+        has_room(bytes, at)
+    } else {
+        false
+    }
+}
+
+// Whether a good frame begins here, by its own sums.
+fn holds_frame(ours: u8, bytes: &[u8], at: usize) -> bool
+    requires { ⌜ at + 12 ≤ length (now bytes) ⌝ }
+    ensures { λ r. ⌜ r ≡ holdsFrame ours (now (bytes .entry)) at ⌝ }
+{
+    if can_begin(ours, bytes, at) {
         let end = at + (12 + length_at(bytes, at));
         fletcher::good(&bytes[at..end])
     } else {
@@ -152,9 +166,9 @@ fn good_at(bytes: &[u8], firsts: &[u32; 64], seconds: &[u32; 64], at: usize, bef
 }
 
 // The first of so many starts that holds a good frame, with the bytes summed once for all of them; `count` where none does.
-fn first_noted(bytes: &[u8], count: usize) -> usize
+fn first_noted(ours: u8, bytes: &[u8], count: usize) -> usize
     requires { ⌜ (count ≤ length (now bytes) - 11) × (count ≤ 3845) ⌝ }
-    ensures { λ r. ⌜ r ≡ firstOr count (holdsFrame (now (bytes .entry))) (upFrom 0 count) ⌝ }
+    ensures { λ r. ⌜ r ≡ firstOr count (holdsFrame ours (now (bytes .entry))) (upFrom 0 count) ⌝ }
 {
     let mut firsts = [0u32; 64];
     let mut seconds = [0u32; 64];
@@ -165,7 +179,7 @@ fn first_noted(bytes: &[u8], count: usize) -> usize
     };
     let mut at: usize = 0;
     while at < count {
-        if has_room(bytes, at) {
+        if can_begin(ours, bytes, at) {
             let end = at + (12 + length_at(bytes, at));
             noted = note(bytes, &mut firsts, &mut seconds, noted, end);
             if good_at(bytes, &firsts, &seconds, at, before) {
@@ -179,27 +193,27 @@ fn first_noted(bytes: &[u8], count: usize) -> usize
 }
 
 // The same. Where a frame begins at once, as one does right after another, its own sums say so, and nothing is noted.
-fn first_near(bytes: &[u8], count: usize) -> usize
+fn first_near(ours: u8, bytes: &[u8], count: usize) -> usize
     requires { ⌜ (0 < count) × (count ≤ length (now bytes) - 11) × (count ≤ 3845) ⌝ }
-    ensures { λ r. ⌜ r ≡ firstOr count (holdsFrame (now (bytes .entry))) (upFrom 0 count) ⌝ }
+    ensures { λ r. ⌜ r ≡ firstOr count (holdsFrame ours (now (bytes .entry))) (upFrom 0 count) ⌝ }
 {
-    if holds_frame(bytes, 0) {
+    if holds_frame(ours, bytes, 0) {
         0
     } else {
-        first_noted(bytes, count)
+        first_noted(ours, bytes, count)
     }
 }
 
 // The first of the first `limit` starts that holds a good frame; `limit` where none does. They are looked through in parts of 3,845:
 // the longest frame from the last of these ends 4,096 bytes on, and over so many the sums do not leave 32 bits.
-fn first_frame(bytes: &[u8], limit: usize) -> usize
+fn first_frame(ours: u8, bytes: &[u8], limit: usize) -> usize
     requires { ⌜ limit ≤ length (now bytes) - 11 ⌝ }
-    ensures { λ r. ⌜ r ≡ firstOr limit (holdsFrame (now (bytes .entry))) (upFrom 0 limit) ⌝ }
+    ensures { λ r. ⌜ r ≡ firstOr limit (holdsFrame ours (now (bytes .entry))) (upFrom 0 limit) ⌝ }
 {
     let mut at: usize = 0;
     while at < limit {
         let count = ground::least(limit - at, 3845);
-        let found = first_near(&bytes[at..], count);
+        let found = first_near(ours, &bytes[at..], count);
         if found < count {
             return at + found;
         }
@@ -208,13 +222,13 @@ fn first_frame(bytes: &[u8], limit: usize) -> usize
     limit
 }
 
-// Looks for a good frame among the first `budget` starts.
-pub fn find(bytes: &[u8], budget: usize) -> Finding
-    ensures { λ r. ⌜ told r ≡ finding (now (bytes .entry)) budget ⌝ }
+// Looks for a good frame that a system with our subnet takes, among the first `budget` starts.
+pub fn find(ours: u8, bytes: &[u8], budget: usize) -> Finding
+    ensures { λ r. ⌜ told r ≡ finding ours (now (bytes .entry)) budget ⌝ }
 {
     let starts = starts_in(bytes.len());
     let limit = ground::least(budget, starts);
-    let at = first_frame(bytes, limit);
+    let at = first_frame(ours, bytes, limit);
     if at < limit {
         let n = length_at(bytes, at);
         return Finding::Found {
@@ -232,10 +246,10 @@ pub fn find(bytes: &[u8], budget: usize) -> Finding
 
 // What `find` finds, for C.
 #[no_mangle]
-pub extern "C" fn nadrelgos_find(bytes: &[u8], budget: usize) -> FindNumbers
-    ensures { λ r. ⌜ r ≡ findNumbers (finding (now (bytes .entry)) budget) ⌝ }
+pub extern "C" fn nadrelgos_find(ours: u8, bytes: &[u8], budget: usize) -> FindNumbers
+    ensures { λ r. ⌜ r ≡ findNumbers (finding ours (now (bytes .entry)) budget) ⌝ }
 {
-    match find(bytes, budget) {
+    match find(ours, bytes, budget) {
         Finding::Found {
             start,
             length,

@@ -1,4 +1,5 @@
 pub mod Told
+pub mod Subnets
 pub mod Laying
 pub mod RoundTrip
 pub mod ReadyHeader

@@ -1,23 +1,22 @@
--- Demand 2: what is written reads back; what is read and written again is the same frame, but for a check byte 0 that becomes 255.
-use Prim.Native.Nat.{ℕ, zero, suc, _+_, _-_, _%_, _≤_, _<_}
+-- Demand 2: what is written reads back with the frame's own subnet, and with no other but where it is 0 (02, C-14); what is read and written again is the same frame, but for a check byte 0 that becomes 255.
+use Prim.Native.Nat.{ℕ, zero, suc, _+_, _-_, _≤_, _<_}
 use native.Mathlib.Omega.{arith}
 use mathlib.Core.Path.{_≡_, refl, sym, ap, _∙_}
-use mathlib.Core.Bool.{Bool, true, false, not}
+use mathlib.Core.Bool.{true, false}
 use mathlib.Core.List.{List, [], _∷_, _++_, map}
 use native.Mathlib.Numerals.{add-one}
-use lib.ListN.{length, getD, take, drop, length-append, length-drop, take-append-drop}
+use lib.ListN.{length, take, drop, length-append, length-drop, take-append-drop}
 use lib.Seq.{take-at, take-all, drop-cons, take-add, length-take-le}
-use lib.Dec.{eqb, ltb}
-use borrow.Author.Tests.{le-ltb, eq-eqb}
 use Rattle.ground.specs.Below.{upFrom}
-use Rattle.ground.proofs.Choices.{not-no}
-use Rattle.refusal.specs.Refusal.{Told, refuses, gives, ruled}
+use Rattle.refusal.specs.Refusal.{refuses, gives}
+use Rattle.refusal.specs.declared.Refusal.the-variants.{OtherSubnet}
 use Rattle.refusal.proofs.Rules.{Passed, passed, gave}
 use Rattle.fletcher.specs.Fletcher.{isGood, checkBytes}
 use Rattle.fletcher.proofs.Laws.{checked-good, only-check}
 use Rattle.frame.specs.declared.Header.{Header}
-use Rattle.frame.specs.Frame.{byte, fields, headerOf, lengthByte, readRules, reading, payloadOf, body, frameOf, settled}
-use Rattle.frame.proofs.Told.{Whole, whole}
+use Rattle.frame.specs.Frame.{byte, fields, headerOf, lengthByte, takesSubnet, readRules, reading, payloadOf, body, frameOf, settled}
+use Rattle.frame.proofs.Told.{Whole, passed-read}
+use Rattle.frame.proofs.Subnets.{takes-own, takes-zero, taken-reads, other-refused}
 
 -- a frame has twelve bytes more than its payload
 pub long : (h : Header) (p : List ℕ) → length (frameOf h p) ≡ 12 + length p
@@ -25,22 +24,35 @@ unfolding frameOf
 long h p = simp length-append (omega arith)
 
 module _ (h : Header) (p : List ℕ) (small : length p ≤ 240) where
-  written-passes : Passed (readRules (frameOf h p))
+  written-whole : Whole (frameOf h p)
   unfolding frameOf
-  written-passes = (
-    le-ltb (length (frameOf h p)) 12 (omega (arith, long h p)),
-    (le-ltb _ _ small, (not-no _ (eq-eqb _ _ (long h p)), (not-no _ (checked-good (body h p)), tt))),
-  )
+  written-whole = record { small = small; long = long h p; good = checked-good (body h p) }
 
-  -- what is written reads back as the same fields and the same payload length
-  pub reads-back : reading (frameOf h p) ≡ gives (fields h ++ length p ∷ [])
+  -- what is written reads back, under a subnet that takes it, as the same fields and the same payload length
+  pub reads-back : (ours : ℕ) → takesSubnet ours (h .subnet) ≡ true → reading ours (frameOf h p) ≡ gives (fields h ++ length p ∷ [])
   unfolding reading frameOf
-  reads-back = passed (readRules (frameOf h p)) refuses (gives (fields h ++ length p ∷ [])) written-passes
+  reads-back ours taken = taken-reads ours (frameOf h p) written-whole refuses (gives (fields h ++ length p ∷ [])) taken
 
   -- and as the same payload
-  pub reads-back-payload : payloadOf (frameOf h p) ≡ p
+  pub reads-back-payload : (ours : ℕ) → takesSubnet ours (h .subnet) ≡ true → payloadOf ours (frameOf h p) ≡ p
   unfolding payloadOf frameOf
-  reads-back-payload = passed (readRules (frameOf h p)) (λ r. []) _ written-passes ∙ take-at p (checkBytes (body h p)) (length p) refl
+  reads-back-payload ours taken = taken-reads ours (frameOf h p) written-whole (λ r. []) _ taken ∙ take-at p (checkBytes (body h p)) (length p) refl
+
+  -- "Demand 2's round trip reads with the frame's own subnet" (02, C-14)
+  pub reads-back-own : (reading (h .subnet) (frameOf h p) ≡ gives (fields h ++ length p ∷ [])) × (payloadOf (h .subnet) (frameOf h p) ≡ p)
+  reads-back-own = (reads-back (h .subnet) (takes-own (h .subnet)), reads-back-payload (h .subnet) (takes-own (h .subnet)))
+
+  -- and with 0 in the frame it reads back under every subnet
+  pub reads-back-all : h .subnet ≡ 0 → (ours : ℕ) → (reading ours (frameOf h p) ≡ gives (fields h ++ length p ∷ [])) × (payloadOf ours (frameOf h p) ≡ p)
+  reads-back-all e ours = (reads-back ours taken, reads-back-payload ours taken)
+    where
+      taken : takesSubnet ours (h .subnet) ≡ true
+      taken = rw e (takes-zero ours)
+
+  -- under every other it is refused 24, and has no payload
+  pub unread-elsewhere : (ours : ℕ) → takesSubnet ours (h .subnet) ≡ false → (reading ours (frameOf h p) ≡ refuses OtherSubnet) × (payloadOf ours (frameOf h p) ≡ [])
+  unfolding reading payloadOf frameOf
+  unread-elsewhere ours other = (other-refused ours (frameOf h p) written-whole refuses _ other, other-refused ours (frameOf h p) written-whole (λ r. []) _ other)
 
 -- the front of a list, read byte by byte
 front-bytes : (b : List ℕ) (a n : ℕ) → a + n ≤ length b → take n (drop a b) ≡ map (byte b) (upFrom a n)
@@ -77,9 +89,9 @@ module _ (b : List ℕ) (w : Whole b) where
       (only-check (take (10 + lengthByte b) b) (byte b (10 + lengthByte b)) (byte b (11 + lengthByte b)) (bytes _) (bytes _) (ap isGood (sym split) ∙ w .good))
 
 -- what reads well and is written again is the same frame, with a check byte 0 become 255
-pub written-again : (b vs : List ℕ) → ((i : ℕ) → byte b i < 256) → reading b ≡ gives vs → frameOf (headerOf b) (payloadOf b) ≡ settled b
+pub written-again : (ours : ℕ) (b vs : List ℕ) → ((i : ℕ) → byte b i < 256) → reading ours b ≡ gives vs → frameOf (headerOf b) (payloadOf ours b) ≡ settled b
 unfolding reading payloadOf
-written-again b vs bytes e = rw (passed (readRules b) (λ r. []) (take (lengthByte b) (drop 10 b)) ok) (again b (whole b ok) bytes)
+written-again ours b vs bytes e = rw (passed (readRules ours b) (λ r. []) (take (lengthByte b) (drop 10 b)) ok) (again b (passed-read ours b ok .bytes) bytes)
   where
-    ok : Passed (readRules b)
-    ok = gave (readRules b) (fields (headerOf b) ++ lengthByte b ∷ []) vs e .0
+    ok : Passed (readRules ours b)
+    ok = gave (readRules ours b) (fields (headerOf b) ++ lengthByte b ∷ []) vs e .0

@@ -1,5 +1,6 @@
 -- The contracts, as they stand in the source, leave one outcome for each input: one answer, one payload, one content of the lent bytes. And a ready header's are `write`'s.
 use mathlib.Core.Path.{_≡_, sym, ap, _∙_}
+use mathlib.Core.Bool.{Bool}
 use mathlib.Core.List.{List}
 use Prim.Native.Nat.{ℕ}
 use lib.ListN.{length}
@@ -14,11 +15,15 @@ use Rattle.frame.specs.Frame.{toldWritten, writtenBytes}
 use Rattle.frame.specs.ReadyHeader.{readyBytes}
 use Rattle.frame.proofs.Told.{same-told, same-written}
 use Rattle.frame.proofs.ReadyHeader.{same-as-write}
+use Rattle.frame.proofs.takes_subnet.Reads as takes-subnet
 use Rattle.frame.proofs.read.Reads as read
 use Rattle.frame.proofs.payload.Reads as payload
 use Rattle.frame.proofs.write.Reads as write
 use Rattle.frame.proofs.prepare.Reads as prepare
 use Rattle.frame.proofs.write_ready.Reads as write-ready
+
+pub unique-takes-subnet : (κs a s t : _) (r q : Bool) → takes-subnet.Post κs a r s → takes-subnet.Post κs a q t → r ≡ q
+unique-takes-subnet κs a s t r q p p′ = p ∙ sym p′
 
 pub unique-read : (κs a s t : _) (r q : Reading) → read.Post κs a r s → read.Post κs a q t → r ≡ q
 unique-read κs a s t r q p p′ = same-told r q (p ∙ sym p′)

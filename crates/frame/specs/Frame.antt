@@ -1,13 +1,13 @@
 -- The frame (001, sections 5 and 7; 01, "The frame").
 use Prim.Native.Nat.{ℕ, _+_}
 use mathlib.Core.Path.{_≡_}
-use mathlib.Core.Bool.{Bool, not}
+use mathlib.Core.Bool.{Bool, _||_, not}
 use mathlib.Core.List.{List, [], _∷_, _++_}
 use lib.ListN.{length, getD, take, drop}
 use lib.Dec.{eqb, ltb}
 use Rattle.refusal.specs.Refusal.{Told, refuses, gives, ruled}
 use Rattle.refusal.specs.declared.Refusal.{Refusal}
-use Rattle.refusal.specs.declared.Refusal.the-variants.{Short, OverLong, LengthMismatch, BadChecksum, PayloadTooLong, NoRoom}
+use Rattle.refusal.specs.declared.Refusal.the-variants.{Short, OverLong, LengthMismatch, BadChecksum, PayloadTooLong, NoRoom, OtherSubnet}
 use Rattle.fletcher.specs.Fletcher.{isGood, checkBytes, neverZero}
 use Rattle.frame.specs.declared.Header.{Header}
 use Rattle.frame.specs.declared.Reading.{Reading}
@@ -43,25 +43,37 @@ fields h =
 abbrev pub lengthByte : List ℕ → ℕ
 lengthByte b = byte b 9
 
--- when the reader refuses, in the order of the numbers 1 to 4 (01, "Numbers" and "Order")
-abbrev pub readRules : List ℕ → List (Bool × Refusal)
-readRules b =
+-- when bytes are no frame, in the order of the numbers 1 to 4 (01, "Numbers" and "Order")
+abbrev pub wholeRules : List ℕ → List (Bool × Refusal)
+wholeRules b =
     (ltb (length b) 12, Short) ∷
     (ltb 240 (lengthByte b), OverLong) ∷
     (not (eqb (length b) (12 + lengthByte b)), LengthMismatch) ∷
     (not (isGood b), BadChecksum) ∷ []
 
--- what the reader says of bytes: the nine fields and the payload's length, or its refusal
-unfoldable pub reading : List ℕ → Told
-reading b = ruled (readRules b) refuses (gives (fields (headerOf b) ++ lengthByte b ∷ []))
+-- which frames a system takes by their subnet: its own, and 0, everybody's (02, C-14: "refuse any frame whose subnet byte is neither ours nor 0")
+abbrev pub takesSubnet : ℕ → ℕ → Bool
+takesSubnet ours subnet = eqb subnet ours || eqb subnet 0
+
+-- when a frame is none for a system with this subnet: 24 (02, C-14)
+abbrev pub subnetRules : ℕ → List ℕ → List (Bool × Refusal)
+subnetRules ours b = (not (takesSubnet ours (headerOf b .subnet)), OtherSubnet) ∷ []
+
+-- when its reader refuses: 1 to 4, and 24 "directly after 4" (02, C-14)
+abbrev pub readRules : ℕ → List ℕ → List (Bool × Refusal)
+readRules ours b = wholeRules b ++ subnetRules ours b
+
+-- what that reader says of bytes: the nine fields and the payload's length, or its refusal
+unfoldable pub reading : ℕ → List ℕ → Told
+reading ours b = ruled (readRules ours b) refuses (gives (fields (headerOf b) ++ lengthByte b ∷ []))
 
 -- bytes that read well: the reader gives their own fields, and their payload's length
-abbrev pub ReadsWell : List ℕ → Type 0
-ReadsWell b = reading b ≡ gives (fields (headerOf b) ++ lengthByte b ∷ [])
+abbrev pub ReadsWell : ℕ → List ℕ → Type 0
+ReadsWell ours b = reading ours b ≡ gives (fields (headerOf b) ++ lengthByte b ∷ [])
 
 -- the payload: the bytes from offset 10 on, as many as the length byte says; empty on a refusal (01, "The frame")
-unfoldable pub payloadOf : List ℕ → List ℕ
-payloadOf b = ruled (readRules b) (λ r. []) (take (lengthByte b) (drop 10 b))
+unfoldable pub payloadOf : ℕ → List ℕ → List ℕ
+payloadOf ours b = ruled (readRules ours b) (λ r. []) (take (lengthByte b) (drop 10 b))
 
 -- what a reading says
 abbrev pub told : Reading → Told

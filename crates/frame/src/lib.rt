@@ -7,7 +7,7 @@ ghost use Prim.Native.Nat.{_+_, _≤_};
 ghost use lib.ListN.{length};
 ghost use lib.Seq.{paste};
 ghost use Rattle.ground.specs.Bytes.{laid};
-ghost use Rattle.frame.specs.Frame.{fields, headerOf, told, reading, payloadOf, toldWritten, writing, writtenBytes};
+ghost use Rattle.frame.specs.Frame.{fields, headerOf, takesSubnet, told, reading, payloadOf, toldWritten, writing, writtenBytes};
 ghost use Rattle.frame.specs.ReadyHeader.{readyOf, readyBytes, closedBytes};
 
 // The nine bytes before the payload length, in the order of the wire.
@@ -61,9 +61,16 @@ fn header_of(bytes: &[u8]) -> Header
     }
 }
 
-// Reads bytes as one whole frame.
-pub fn read(bytes: &[u8]) -> Reading
-    ensures { λ r. ⌜ told r ≡ reading (now (bytes .entry)) ⌝ }
+// Whether a system takes a frame with this subnet: its own is taken, and 0, everybody's.
+pub fn takes_subnet(ours: u8, subnet: u8) -> bool
+    ensures { λ r. ⌜ r ≡ takesSubnet ours subnet ⌝ }
+{
+    (subnet == ours) | (subnet == 0)
+}
+
+// Reads bytes as one whole frame that a system with our subnet takes.
+pub fn read(ours: u8, bytes: &[u8]) -> Reading
+    ensures { λ r. ⌜ told r ≡ reading ours (now (bytes .entry)) ⌝ }
 {
     if bytes.len() < 12 {
         return Reading::Refused(Refusal::Short);
@@ -78,14 +85,18 @@ pub fn read(bytes: &[u8]) -> Reading
     if !fletcher::good(bytes) {
         return Reading::Refused(Refusal::BadChecksum);
     }
-    Reading::Frame(header_of(bytes), n)
+    let header = header_of(bytes);
+    if !takes_subnet(ours, header.subnet) {
+        return Reading::Refused(Refusal::OtherSubnet);
+    }
+    Reading::Frame(header, n)
 }
 
-// The payload of a frame, as a part of its bytes; empty where the bytes are no frame.
-pub fn payload(bytes: &[u8]) -> &[u8]
-    ensures { λ r. ⌜ now r ≡ payloadOf (now (bytes .entry)) ⌝ }
+// The payload of a frame, as a part of its bytes; empty where they are no frame that a system with our subnet takes.
+pub fn payload(ours: u8, bytes: &[u8]) -> &[u8]
+    ensures { λ r. ⌜ now r ≡ payloadOf ours (now (bytes .entry)) ⌝ }
 {
-    match read(bytes) {
+    match read(ours, bytes) {
         Reading::Frame(_, n) => {
             let end = 10 + n;
             &bytes[10..end]

@@ -1,10 +1,13 @@
 // Lists the frames in the first 4,096 bytes of standard input, a line each: start, destination, source, message type,
-// payload length.
+// payload length. Frames whose subnet is neither SUBNET nor 0 are passed over.
 use finder::Finding;
 use frame::Header;
 use frame::Reading;
 use libc::STDIN_FILENO;
 use libc::STDOUT_FILENO;
+
+// The subnet of the system whose frames are listed.
+const SUBNET: u8 = 3;
 
 fn print_number(n: u64) {
     io::print_decimal(STDOUT_FILENO, n);
@@ -27,7 +30,7 @@ fn print_line(start: usize, header: Header, n: usize) {
 
 // Prints the frame that these bytes are, which stand at `start` of the input.
 fn print_frame(start: usize, bytes: &[u8]) {
-    if let Reading::Frame(header, n) = frame::read(bytes) {
+    if let Reading::Frame(header, n) = frame::read(SUBNET, bytes) {
         print_line(start, header, n);
     }
 }
@@ -36,7 +39,7 @@ fn print_frame(start: usize, bytes: &[u8]) {
 fn list_frames(bytes: &[u8]) {
     let mut at: usize = 0;
     while at < bytes.len() {
-        match finder::find(&bytes[at..], bytes.len()) {
+        match finder::find(SUBNET, &bytes[at..], bytes.len()) {
             Finding::Found {
                 start,
                 length,

@@ -127,4 +127,4 @@ few-bytes b w = omega (arith, length-take (lengthByte b) (drop 10 b), w .small)
 
 pub receive-keeps : (c : Coordinator) (t : List Node) (b : List ℕ) (room : ℕ) → Keeps c t (receiveOf c t b room)
 unfolding receiveIn
-receive-keeps c t b room = rules-keep c t (drop 1 (receiveRules (phaseOf (c .stand)) c t b)) refl (takenIn (phaseOf (c .stand)) c t (headerOf b) (payload b) room) (λ h passed. taken-keeps c t h (headerOf b) (payload b) (few-bytes b (admitted (phaseOf (c .stand)) c t b (not-no _ h, passed) .bytes)) room (phaseOf (c .stand)) refl)
+receive-keeps c t b room = rules-keep c t (drop 1 (receiveRules (phaseOf (c .stand)) c t b)) refl (takenIn (phaseOf (c .stand)) c t (headerOf b) (payload b) room) (λ h passed. taken-keeps c t h (headerOf b) (payload b) (few-bytes b (admitted (phaseOf (c .stand)) c t b (not-no _ h, passed) .read .bytes)) room (phaseOf (c .stand)) refl)

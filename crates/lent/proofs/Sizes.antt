@@ -56,8 +56,8 @@ use Rattle.lent.specs.Numbers.{parts}
 use Rattle.lent.proofs.Faces.{whole-parts}
 
 -- a good frame is 12 bytes and a payload
-good-small : (bytes : List ℕ) → ReadsWell bytes → length bytes ≤ 252
-good-small bytes good = omega (arith, read-whole bytes _ good)
+good-small : (ours : ℕ) (bytes : List ℕ) → ReadsWell ours bytes → length bytes ≤ 252
+good-small ours bytes good = omega (arith, read-whole ours bytes _ good .bytes)
 
 -- and whatever is written is one
 pub written-small : (c : Coordinator) (t : List Node) (event : Event) (b : List ℕ) (room : ℕ) → length (stepOf c t event b room .bytes) ≤ 252
@@ -65,9 +65,9 @@ written-small c t event b room = go (stepOf c t event b room .bytes) (step-writt
   where
     go : (bytes : List ℕ) → Written c t bytes → length bytes ≤ 252
     go bytes (nothing e) = omega (arith, ap length e)
-    go bytes (to-board board goes) = good-small bytes (goes .reaches .good)
-    go bytes (to-stake position part e reaches) = good-small bytes (reaches .good)
-    go bytes (to-all broadcast) = good-small bytes (broadcast .good)
+    go bytes (to-board board goes) = good-small (c .setup .subnet) bytes (goes .reaches .good)
+    go bytes (to-stake position part e reaches) = good-small (c .setup .subnet) bytes (reaches .good)
+    go bytes (to-all broadcast) = good-small 0 bytes (broadcast .good 0)
 
 -- at most forty: the position awaited, the position joined, the position dropped
 abbrev Few : After → Type 0

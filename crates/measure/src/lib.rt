@@ -34,12 +34,12 @@ pub extern "C" fn measure_good(bytes: &[u8]) -> bool
     fletcher::good(bytes)
 }
 
-// Reads bytes as one whole frame.
+// Reads bytes as one whole frame that a system with our subnet takes.
 #[no_mangle]
-pub extern "C" fn measure_read(bytes: &[u8]) -> ReadNumbers
-    ensures { λ r. ⌜ r ≡ readNumbers (reading (now (bytes .entry))) ⌝ }
+pub extern "C" fn measure_read(ours: u8, bytes: &[u8]) -> ReadNumbers
+    ensures { λ r. ⌜ r ≡ readNumbers (reading ours (now (bytes .entry))) ⌝ }
 {
-    match frame::read(bytes) {
+    match frame::read(ours, bytes) {
         Reading::Frame(header, n) => {
             ReadNumbers {
                 refusal: 0,

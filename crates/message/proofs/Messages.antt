@@ -15,7 +15,7 @@ use Rattle.refusal.specs.declared.Refusal.the-variants.{NoRoom}
 use Rattle.refusal.specs.Refusal.{refuses, gives, ruled}
 use Rattle.frame.specs.declared.Header.{Header}
 use Rattle.frame.specs.Frame.{fields, reading, payloadOf, frameOf, writeRules, writing, writtenBytes}
-use Rattle.frame.proofs.RoundTrip.{long, reads-back, reads-back-payload}
+use Rattle.frame.proofs.RoundTrip.{long, reads-back-own}
 use Rattle.word.specs.Words.{bytesOf, wordAt}
 use Rattle.word.proofs.Words.{length-bytes, read-back}
 use Rattle.board.specs.declared.Node.{Node}
@@ -35,6 +35,11 @@ own-to-board s board index message packet = refl
 pub own-fields : (s : Setup) (board index message packet : ℕ) → fields (ownHeader s board index message packet) ≡ address s board ∷ 255 ∷ s .subnet ∷ 0 ∷ 0 ∷ index ∷ 165 ∷ message ∷ packet ∷ []
 unfolding ownHeader
 own-fields s board index message packet = refl
+
+-- so a frame of our own reads back in our subnet
+pub own-back : (s : Setup) (board index message packet : ℕ) (p : List ℕ) → length p ≤ 240 → (reading (s .subnet) (frameOf (ownHeader s board index message packet) p) ≡ gives (fields (ownHeader s board index message packet) ++ length p ∷ [])) × (payloadOf (s .subnet) (frameOf (ownHeader s board index message packet) p) ≡ p)
+unfolding ownHeader
+own-back s board index message packet p small = reads-back-own (ownHeader s board index message packet) p small
 
 -- the nine bytes of a broadcast's header
 pub broadcast-fields : (message packet : ℕ) → fields (broadcastHeader message packet) ≡ 0 ∷ 255 ∷ 0 ∷ 0 ∷ 0 ∷ 0 ∷ 165 ∷ message ∷ packet ∷ []
@@ -97,12 +102,12 @@ module _ (h : Header) (p before : List ℕ) (small : length p ≤ 240) (room : 1
       whole : writtenBytes h p (length before) ≡ frameOf h p
       whole = written-small h p (length before) small ∙ sym (choose-no _ _ _ _ (le-ltb (length before) (12 + length p) room) refl)
 
-  -- and its receiver reads the header's fields and the payload
-  pub front-reads : reading (take (12 + length p) (laid (writtenBytes h p (length before)) before)) ≡ gives (fields h ++ length p ∷ [])
-  front-reads = ap reading front-is ∙ reads-back h p small
+  -- and its receiver, in the subnet to which it goes, reads the header's fields and the payload
+  pub front-reads : reading (h .subnet) (take (12 + length p) (laid (writtenBytes h p (length before)) before)) ≡ gives (fields h ++ length p ∷ [])
+  front-reads = ap (reading (h .subnet)) front-is ∙ reads-back-own h p small .0
 
-  pub front-payload : payloadOf (take (12 + length p) (laid (writtenBytes h p (length before)) before)) ≡ p
-  front-payload = ap payloadOf front-is ∙ reads-back-payload h p small
+  pub front-payload : payloadOf (h .subnet) (take (12 + length p) (laid (writtenBytes h p (length before)) before)) ≡ p
+  front-payload = ap (payloadOf (h .subnet)) front-is ∙ reads-back-own h p small .1
 
 -- the form of the R2R and of its ACK (003, Tables 48 and 49): the code at offset 0, the MAC at 1 to 8, the session at 9 to 16
 pub record Form (code mac session : ℕ) (p : List ℕ) : Type 0 where

@@ -17,8 +17,7 @@ use Rattle.refusal.specs.declared.Refusal.the-variants.{UnexpectedType, NoRoom}
 use Rattle.refusal.proofs.Numbers.{not-zero}
 use Rattle.refusal.proofs.Rules.{Passed, passed, unrefused, each, by-rules}
 use Rattle.frame.specs.declared.Header.{Header}
-use Rattle.frame.specs.Frame.{headerOf, reading, payloadOf}
-use Rattle.frame.proofs.RoundTrip.{reads-back, reads-back-payload}
+use Rattle.frame.specs.Frame.{fields, headerOf, reading, payloadOf}
 use Rattle.board.specs.declared.Node.{Node}
 use Rattle.board.specs.Table.{at, put}
 use Rattle.board.specs.declared.Wanted.the-variants.{Mac}
@@ -29,7 +28,7 @@ use Rattle.board.proofs.Numbered.{relisted-keeps}
 use Rattle.setup.specs.Setup.{address}
 use Rattle.setup.specs.Fitness.{FitSetup}
 use Rattle.message.specs.Message.{signedHeader, signed, signedFrame, ackCode}
-use Rattle.message.proofs.Messages.{Form, ack-form, own-fields, signed-size, signed-small}
+use Rattle.message.proofs.Messages.{Form, ack-form, own-fields, own-back, signed-size, signed-small}
 use Rattle.accept.specs.declared.Heard.{Heard}
 use Rattle.accept.specs.declared.Heard.the-variants.{Ack, Echo, Deliver, Route, Answer, Refused}
 use Rattle.accept.specs.declared.Reply.{Reply}
@@ -333,16 +332,19 @@ sought-spared c t b room k = subst (λ (x : After). Spared t (k .position) (x .n
 -- in its payload of 17 bytes code 6, our MAC and our session (01, "Turn": "Own frames"; 003, Table 49)
 pub record AckTo (c : Coordinator) (t : List Node) (board source : ℕ) (bytes : List ℕ) : Type 0 where
   pub sender : source ≡ address (c .setup) board
-  pub reads : reading bytes ≡ gives (source ∷ 255 ∷ c .setup .subnet ∷ 0 ∷ 0 ∷ at t board .index ∷ 165 ∷ 0 ∷ 128 ∷ 17 ∷ [])
-  pub form : c .setup .session < 2 ^ 64 → Form 6 (c .setup .mac) (c .setup .session) (payloadOf bytes)
+  pub reads : reading (c .setup .subnet) bytes ≡ gives (source ∷ 255 ∷ c .setup .subnet ∷ 0 ∷ 0 ∷ at t board .index ∷ 165 ∷ 0 ∷ 128 ∷ 17 ∷ [])
+  pub form : c .setup .session < 2 ^ 64 → Form 6 (c .setup .mac) (c .setup .session) (payloadOf (c .setup .subnet) bytes)
 
 ack-to : (c : Coordinator) (t : List Node) (board source : ℕ) → FitSetup (c .setup) → source ≡ address (c .setup) board → AckTo c t board source (signedFrame (c .setup) t board ackCode)
 ack-to c t board source f e =
     record {
       sender = e;
-      reads = reads-back (signedHeader (c .setup) board (at t board .index)) (signed (c .setup) ackCode) (signed-small (c .setup) ackCode) ∙ ap (λ (l : List ℕ). gives (l ++ length (signed (c .setup) ackCode) ∷ [])) (own-fields (c .setup) board (at t board .index) 0 128) ∙ (λ i. gives (sym e i ∷ 255 ∷ c .setup .subnet ∷ 0 ∷ 0 ∷ at t board .index ∷ 165 ∷ 0 ∷ 128 ∷ signed-size (c .setup) ackCode i ∷ []));
-      form = λ l. subst (Form 6 (c .setup .mac) (c .setup .session)) (sym (reads-back-payload (signedHeader (c .setup) board (at t board .index)) (signed (c .setup) ackCode) (signed-small (c .setup) ackCode))) (ack-form (c .setup) (omega (arith, f .mac .below)) l);
+      reads = back .0 ∙ ap (λ (l : List ℕ). gives (l ++ length (signed (c .setup) ackCode) ∷ [])) (own-fields (c .setup) board (at t board .index) 0 128) ∙ (λ i. gives (sym e i ∷ 255 ∷ c .setup .subnet ∷ 0 ∷ 0 ∷ at t board .index ∷ 165 ∷ 0 ∷ 128 ∷ signed-size (c .setup) ackCode i ∷ []));
+      form = λ l. subst (Form 6 (c .setup .mac) (c .setup .session)) (sym (back .1)) (ack-form (c .setup) (omega (arith, f .mac .below)) l);
     }
+  where
+    back : (reading (c .setup .subnet) (signedFrame (c .setup) t board ackCode) ≡ gives (fields (signedHeader (c .setup) board (at t board .index)) ++ length (signed (c .setup) ackCode) ∷ [])) × (payloadOf (c .setup .subnet) (signedFrame (c .setup) t board ackCode) ≡ signed (c .setup) ackCode)
+    back = own-back (c .setup) board (at t board .index) 0 128 (signed (c .setup) ackCode) (signed-small (c .setup) ackCode)
 
 -- where the panel delivers or transmits it writes an ACK that reads well to the sender of the frame, and elsewhere nothing
 abbrev pub Answers : Coordinator → List Node → ℕ → ℕ → After → Type 0

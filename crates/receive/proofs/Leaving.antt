@@ -234,25 +234,29 @@ module _ {seen : Seen} {c : Coordinator} {t : List Node} (s : Saw seen c t) (h :
 pub node-named : (c : Coordinator) (t : List Node) {w : Phase} {n : Node} {board requester : ℕ} {e : Exchange} {a : Bool} → w ≡ phaseOf (c .stand) → w ≡ Awaiting board e requester a → n ≡ at t (c .stand .board) → n ≡ at t board
 node-named c t h known e = e ∙ ap (at t) (sym (waited-board (c .stand) (sym h ∙ known)))
 
+-- what was seen of the setup is the coordinator's, and so bytes are read in its subnet
+subnet-seen : {seen : Seen} {c : Coordinator} {t : List Node} → Saw seen c t → (b : List ℕ) → reading (seen .setup .subnet) b ≡ reading (c .setup .subnet) b
+subnet-seen s b = ap (λ (x : Setup). reading (x .subnet) b) (s .setup)
+
 -- bytes received, of a coordinator and records that are fit
-module _ {seen : Seen} {c : Coordinator} {t : List Node} (s : Saw seen c t) (b : List ℕ) (room : ℕ) {r : Reading} (e : told-read r ≡ reading b) where
+module _ {seen : Seen} {c : Coordinator} {t : List Node} (s : Saw seen c t) (b : List ℕ) (room : ℕ) {r : Reading} (e : told-read r ≡ reading (seen .setup .subnet) b) where
   -- the reader's refusals come first
   pub received-unread : {q : Refusal} → r ≡ NotRead q → receiveOf c t b room ≡ refused c t q
   unfolding receiveIn reading
-  received-unread {q} n = sym (choose-no _ _ _ _ (not-no _ (s .fit)) (sym (refused-for (readRules b) (fields (headerOf b) ++ lengthByte b ∷ []) (refused c t) _ q (sym e ∙ ap told-read n))))
+  received-unread {q} n = sym (choose-no _ _ _ _ (not-no _ (s .fit)) (sym (refused-for (readRules (c .setup .subnet) b) (fields (headerOf b) ++ lengthByte b ∷ []) (refused c t) _ q (sym (e ∙ subnet-seen s b) ∙ ap told-read n))))
 
   -- then what a good frame gets
   pub received-read : {g : Header} {n : ℕ} → r ≡ Frame g n → receiveOf c t b room ≡ listened (phaseOf (c .stand)) c t g (payload b) room
   unfolding receiveIn reading listened waited
   received-read {g} {n} w =
-      sym (choose-no _ _ _ _ (not-no _ (s .fit)) (sym (passed (readRules b) (refused c t) _ ok)))
-      ∙ ap (λ (x : Header). listened (phaseOf (c .stand)) c t x (payload b) room) (sym (read-frame b w e .header))
+      sym (choose-no _ _ _ _ (not-no _ (s .fit)) (sym (passed (readRules (c .setup .subnet) b) (refused c t) _ ok)))
+      ∙ ap (λ (x : Header). listened (phaseOf (c .stand)) c t x (payload b) room) (sym (read-frame (c .setup .subnet) b w (e ∙ subnet-seen s b) .header))
     where
-      ok : Passed (readRules b)
-      ok = gave (readRules b) (fields (headerOf b) ++ lengthByte b ∷ []) (fields g ++ n ∷ []) (sym e ∙ ap told-read w) .0
+      ok : Passed (readRules (c .setup .subnet) b)
+      ok = gave (readRules (c .setup .subnet) b) (fields (headerOf b) ++ lengthByte b ∷ []) (fields g ++ n ∷ []) (sym (e ∙ subnet-seen s b) ∙ ap told-read w) .0
 
 -- bytes that read well
-module _ {b : List ℕ} {g : Header} {n : ℕ} (read : WellRead b g n) where
+module _ {ours : ℕ} {b : List ℕ} {g : Header} {n : ℕ} (read : WellRead ours b g n) where
   -- the part from offset 10, as long as was read, is the payload
   pub part-is : take (10 + n - 10) (drop 10 b) ≡ payload b
   part-is = ap (λ (m : ℕ). take m (drop 10 b)) (let e : 10 + n - 10 ≡ n = omega arith in e ∙ read .count)

@@ -382,7 +382,7 @@ pub fn receive(
 ) -> Change
     ensures { λ r. ⌜ Takes seen (λ c t. OfMacs (now (kinds .entry)) (now (macs .entry)) c t × (node ≡ at t (c .stand .board))) (now (received .entry)) (λ c t. receiveOf c t (now (received .entry)) (length (now (out .entry)))) r (now (out .entry)) (now (out .exit)) ⌝ }
 {
-    match frame::read(received) {
+    match frame::read(seen.setup.subnet, received) {
         Reading::Frame(header, n) => {
             let end = 10 + n;
             listened(seen, node, kinds, macs, header, &received[10..end], out)

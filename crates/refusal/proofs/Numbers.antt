@@ -9,12 +9,12 @@ use borrow.Author.Tests.{ltb-true, ltb-false}
 use native.Mathlib.Omega.{arith}
 use Rattle.refusal.specs.Refusal.{numberOf, refuses, Told}
 use Rattle.refusal.specs.declared.Refusal.{Refusal}
-use Rattle.refusal.specs.declared.Refusal.the-variants.{Short, OverLong, LengthMismatch, BadChecksum, NotForUs, NotAwaited, UnexpectedType, BadEcho, BadMethod, PayloadTooLong, NoRoom, BadType, BadMac, Busy, Held, Full, AwaitingReply, NobodyListed, NotWaiting, BadPool, StateUnfit, NotDiscovering}
+use Rattle.refusal.specs.declared.Refusal.the-variants.{Short, OverLong, LengthMismatch, BadChecksum, NotForUs, NotAwaited, UnexpectedType, BadEcho, BadMethod, PayloadTooLong, NoRoom, BadType, BadMac, Busy, Held, Full, AwaitingReply, NobodyListed, NotWaiting, BadPool, StateUnfit, NotDiscovering, OtherSubnet}
 
 -- the refusals in the order of their numbers; at 17, which is none's, stands the first again
 listed : List Refusal
 listed =
-    Short ∷ OverLong ∷ LengthMismatch ∷ BadChecksum ∷ NotForUs ∷ NotAwaited ∷ UnexpectedType ∷ BadEcho ∷ BadMethod ∷ PayloadTooLong ∷ NoRoom ∷ BadType ∷ BadMac ∷ Busy ∷ Held ∷ Full ∷ Short ∷ AwaitingReply ∷ NobodyListed ∷ NotWaiting ∷ BadPool ∷ StateUnfit ∷ NotDiscovering ∷ []
+    Short ∷ OverLong ∷ LengthMismatch ∷ BadChecksum ∷ NotForUs ∷ NotAwaited ∷ UnexpectedType ∷ BadEcho ∷ BadMethod ∷ PayloadTooLong ∷ NoRoom ∷ BadType ∷ BadMac ∷ Busy ∷ Held ∷ Full ∷ Short ∷ AwaitingReply ∷ NobodyListed ∷ NotWaiting ∷ BadPool ∷ StateUnfit ∷ NotDiscovering ∷ OtherSubnet ∷ []
 
 -- the refusal that a number names; a number that is none's names the first
 pub refusalOf : ℕ → Refusal
@@ -45,6 +45,7 @@ placed NotWaiting = refl
 placed BadPool = refl
 placed StateUnfit = refl
 placed NotDiscovering = refl
+placed OtherSubnet = refl
 
 pub same-number : (r q : Refusal) → numberOf r ≡ numberOf q → r ≡ q
 same-number r q h = sym (placed r) ∙ ap refusalOf h ∙ placed q

@@ -14,16 +14,32 @@ abbrev pub Passed : List (Bool × Refusal) → Type 0
 Passed [] = Unit {0}
 Passed (rule ∷ rules) = (rule .0 ≡ false) × Passed rules
 
--- of two lists of rules, one after the other, none holds: so none of either does
+-- where none of two lists of rules holds, one after the other, none of either does
 pub passed-both : (rules more : List (Bool × Refusal)) → Passed (rules ++ more) → Passed rules × Passed more
 passed-both [] more h = (tt, h)
 passed-both (rule ∷ rules) more h = let rest = passed-both rules more (h .1) in ((h .0, rest .0), rest .1)
+
+-- where none of the first holds, the second decide
+pub passed-on {ℓ} : {A : Type ℓ} (rules more : List (Bool × Refusal)) (f : Refusal → A) (v : A) → Passed rules → ruled (rules ++ more) f v ≡ ruled more f v
+unfolding choose
+passed-on [] more f v h = refl
+passed-on (rule ∷ rules) more f v h = rw (h .0) (passed-on rules more f v (h .1))
 
 -- where none holds the value stands
 pub passed {ℓ} : {A : Type ℓ} (rules : List (Bool × Refusal)) (f : Refusal → A) (v : A) → Passed rules → ruled rules f v ≡ v
 unfolding choose
 passed [] f v h = refl
 passed (rule ∷ rules) f v h = rw (h .0) (passed rules f v (h .1))
+
+-- where some rule holds, what stands behind them does not matter
+pub stopped {ℓ} : {A : Type ℓ} (rules more : List (Bool × Refusal)) (f : Refusal → A) (v u : A) → (Passed rules → ⊥) → ruled (rules ++ more) f v ≡ ruled rules f u
+unfolding choose
+stopped [] more f v u h = absurd (h tt)
+stopped (rule ∷ rules) more f v u h = go (stopped rules more f v u) (rule .0) refl
+  where
+    go : ((Passed rules → ⊥) → ruled (rules ++ more) f v ≡ ruled rules f u) → (b : Bool) → rule .0 ≡ b → choose b (f (rule .1)) (ruled (rules ++ more) f v) ≡ choose b (f (rule .1)) (ruled rules f u)
+    go rest true e = refl
+    go rest false e = rest (λ p. h (e, p))
 
 -- an answer of which something holds that holds of no refusal passed every rule
 pub unrefused {ℓ κ} : {A : Type ℓ} (Accepted : A → Type κ) (rules : List (Bool × Refusal)) (f : Refusal → A) (v : A) → ((q : Refusal) → Accepted (f q) → ⊥) → Accepted (ruled rules f v) → Passed rules
@@ -96,6 +112,14 @@ module _ {ℓ} {A : Type ℓ} (f : Refusal → A) (v : A) (apart : (r q : Refusa
       only : (b : Bool) → choose b (f r) (ruled rules f v) ≡ f q → (b ≡ false) × (ruled rules f v ≡ f q)
       only true h = absurd (differ (apart r q h))
       only false h = (refl, h)
+
+  -- one that only later rules say: none of the first holds, and the later give it
+  pub refused-beyond : (rules more : List (Bool × Refusal)) (q : Refusal) → Unsaid rules q → ruled (rules ++ more) f v ≡ f q → Passed rules × (ruled more f v ≡ f q)
+  refused-beyond [] more q u e = (tt, e)
+  refused-beyond (rule ∷ rules) more q u e =
+      let first = refused-later (rule .0) (rule .1) (rules ++ more) q (u .0) .0 e in
+      let rest = refused-beyond rules more q (u .1) (first .1) in
+      ((first .0, rest .0), rest .1)
 
 -- nothing is refused exactly when no rule holds, in any reading of that which fits the value and no refusal
 pub accepted-exactly {ℓ κ} : {A : Type ℓ} (Accepted : A → Type κ) (f : Refusal → A) (v : A) → Accepted v → ((q : Refusal) → Accepted (f q) → ⊥) → (rules : List (Bool × Refusal)) → Accepted (ruled rules f v) ↔ Passed rules

@@ -4,9 +4,9 @@ use mathlib.Core.Bool.{Bool}
 use mathlib.Core.List.{List, [], _∷_}
 use Rattle.ground.specs.Choose.{choose}
 use Rattle.refusal.specs.declared.Refusal.{Refusal}
-use Rattle.refusal.specs.declared.Refusal.the-variants.{Short, OverLong, LengthMismatch, BadChecksum, NotForUs, NotAwaited, UnexpectedType, BadEcho, BadMethod, PayloadTooLong, NoRoom, BadType, BadMac, Busy, Held, Full, AwaitingReply, NobodyListed, NotWaiting, BadPool, StateUnfit, NotDiscovering}
+use Rattle.refusal.specs.declared.Refusal.the-variants.{Short, OverLong, LengthMismatch, BadChecksum, NotForUs, NotAwaited, UnexpectedType, BadEcho, BadMethod, PayloadTooLong, NoRoom, BadType, BadMac, Busy, Held, Full, AwaitingReply, NobodyListed, NotWaiting, BadPool, StateUnfit, NotDiscovering, OtherSubnet}
 
--- the rule book's number of each refusal (01, "Numbers"; 02, C-11). 17 is retired and is given to nothing else (02, C-23)
+-- the rule book's number of each refusal (01, "Numbers"; 02, C-11 and C-14). 17 is retired and is given to nothing else (02, C-23)
 abbrev pub numberOf : Refusal → ℕ
 numberOf Short = 1
 numberOf OverLong = 2
@@ -30,6 +30,7 @@ numberOf NotWaiting = 20
 numberOf BadPool = 21
 numberOf StateUnfit = 22
 numberOf NotDiscovering = 23
+numberOf OtherSubnet = 24
 
 -- what an answer says: its number (0 where nothing is refused) and the values that go with it
 pub record Told : Type 0 where

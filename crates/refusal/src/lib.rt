@@ -47,6 +47,8 @@ pub enum Refusal {
     StateUnfit,
     // 23: a response of types 0xF9 to 0xFB while no exchange by which a board joins runs
     NotDiscovering,
+    // 24: a good frame whose subnet is neither ours nor 0
+    OtherSubnet,
 }
 
 // The rule book's number of a refusal.
@@ -76,5 +78,6 @@ pub fn number(refusal: Refusal) -> u8
         Refusal::BadPool => 21,
         Refusal::StateUnfit => 22,
         Refusal::NotDiscovering => 23,
+        Refusal::OtherSubnet => 24,
     }
 }

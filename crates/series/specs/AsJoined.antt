@@ -44,6 +44,6 @@ destined s k h = routeOf (noted s) k (s .awaited) (h .method) (h .parameter1)
 -- and so are the bytes of a list that goes out, the index in an offer or a list, and where a request goes: the board to which the next turn forwards it, or none where it is discarded.
 pub record AsJoined (P : Panel) : Type 0 where
   pub who : (k : ℕ) (w : World) → Fresh P k w → (is : List Input) (p : ℕ) → listedAt (after P w is .nodes) p ≡ true → recorded (at (after P w is .nodes) p) ≡ seen P w nothing is .who p
-  pub list : (k : ℕ) (w : World) → Fresh P k w → (is : List Input) (room : ℕ) → waitsIn (P .step (after P w is) (turnWith room) .says) ≡ 2 → payloadOf (P .step (after P w is) (turnWith room) .bytes) ≡ nodeList (after P w is .coordinator .setup .internal) (noted (seen P w nothing is))
+  pub list : (k : ℕ) (w : World) → Fresh P k w → (is : List Input) (room : ℕ) → waitsIn (P .step (after P w is) (turnWith room) .says) ≡ 2 → payloadOf (after P w is .coordinator .setup .subnet) (P .step (after P w is) (turnWith room) .bytes) ≡ nodeList (after P w is .coordinator .setup .internal) (noted (seen P w nothing is))
   pub index : (k : ℕ) (w : World) → Fresh P k w → (is : List Input) (room : ℕ) → isOwn (P .step (after P w is) (turnWith room) .says) ≡ true → headerOf (P .step (after P w is) (turnWith room) .bytes) .parameter2 ≡ indexOf (noted (seen P w nothing is)) (waitedFor (P .step (after P w is) (turnWith room) .says))
   pub route : (k : ℕ) (w : World) → Fresh P k w → (is : List Input) (received : List ℕ) (room then : ℕ) → requestType (headerOf received .message) ≡ true → isAccepted (P .step (after P w is) (frameWith received room) .says) ≡ true → isAccepted (P .step (left (P .step (after P w is) (frameWith received room))) (turnWith then) .says) ≡ true → forwardedTo (P .step (left (P .step (after P w is) (frameWith received room))) (turnWith then) .says) ≡ destined (seen P w nothing is) (after P w is .coordinator .setup .k) (headerOf received)

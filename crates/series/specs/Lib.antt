@@ -5,4 +5,5 @@ pub mod AsJoined
 pub mod StoredIndex
 pub mod Exchange
 pub mod Wire
+pub mod Others
 pub mod Ours

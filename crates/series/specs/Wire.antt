@@ -36,9 +36,9 @@ isTypeOf exchange message =
     (choose (eqb exchange 6) (eqb message 123)
     (choose (eqb exchange 7) (eqb message 122) false))))))
 
--- bytes that are one good frame, to whom the answer names, of the type of the exchange that it names
+-- bytes that are one good frame in our subnet, to whom the answer names, of the type of the exchange that it names
 pub record AsTold (s : Setup) (says : Told) (bytes : List ℕ) : Type 0 where
-  pub good : ReadsWell bytes
+  pub good : ReadsWell (s .subnet) bytes
   pub to : headerOf bytes .destination ≡ addressed s says
   pub type : isTypeOf (waitsIn says) (headerOf bytes .message) ≡ true
 

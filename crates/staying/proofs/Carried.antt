@@ -8,7 +8,7 @@ use lib.Dec.{ltb}
 use Rattle.ground.specs.Choose.{choose}
 use Rattle.refusal.specs.declared.Refusal.{Refusal}
 use Rattle.frame.specs.Frame.{headerOf, payloadOf, frameOf}
-use Rattle.frame.proofs.RoundTrip.{reads-back-payload}
+use Rattle.frame.proofs.RoundTrip.{reads-back-own}
 use Rattle.board.specs.declared.Node.{Node}
 use Rattle.board.specs.Table.{at}
 use Rattle.board.specs.Round.{nextListed}
@@ -30,7 +30,7 @@ use Rattle.lasting.proofs.Taken.{no-wait, by-refusals, by-choice}
 module _ (c : Coordinator) (t : List Node) where
   -- what goes out is the list of these records, or carries the index that is stored in them, where the answer says so
   pub record Carries (a : After) : Type 0 where
-    pub list : waitsIn (a .says) ≡ 2 → payloadOf (a .bytes) ≡ nodeList (c .setup .internal) t
+    pub list : waitsIn (a .says) ≡ 2 → payloadOf (c .setup .subnet) (a .bytes) ≡ nodeList (c .setup .internal) t
     pub index : carriesIndex (a .says) ≡ true → headerOf (a .bytes) .parameter2 ≡ at t (waitedFor (a .says)) .index
 
   -- what is no list has none; what is neither carries no index
@@ -49,7 +49,7 @@ module _ (c : Coordinator) (t : List Node) where
   unfolding choose ownHeader frameOf
   own-carries =
       by-choice (λ d. Carries (sent d)) (ltb 0 (owedTo c t)) (dueList c t (owedTo c t)) (dueOffer c t (nextListed t (c .setup .k) (c .last)))
-      (λ _. record { list = λ _. reads-back-payload _ (nodeList (c .setup .internal) t) (list-small (c .setup .internal) t); index = λ _. refl })
+      (λ _. record { list = λ _. reads-back-own _ (nodeList (c .setup .internal) t) (list-small (c .setup .internal) t) .1; index = λ _. refl })
       (λ _. unlisted _ (λ e. omega (arith, e)) (λ _. refl))
 
   -- Get Node ID and Set Address

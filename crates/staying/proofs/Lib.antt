@@ -13,3 +13,4 @@ pub mod Routed
 pub mod Acknowledged
 pub mod StoredIndex
 pub mod AsJoined
+pub mod Others

@@ -1,4 +1,4 @@
--- Demand 2 over every step: whatever a step writes reads back as a good frame from 255, to a listed board's address in our subnet, or in the exchange by which a board joins
+-- Demand 2 over every step: whatever a step writes reads back in our subnet as a good frame from 255, to a listed board's address in our subnet, or in the exchange by which a board joins
 -- to the address at stake in our subnet, or to 0 in subnet 0.
 use Prim.Native.Nat.{ℕ}
 use native.Mathlib.Omega.{arith}
@@ -59,7 +59,7 @@ ack-reaches c t position source bytes fit here ack =
     }
   where
     are : fields (headerOf bytes) ++ lengthByte bytes ∷ [] ≡ source ∷ 255 ∷ c .setup .subnet ∷ 0 ∷ 0 ∷ at t position .index ∷ 165 ∷ 0 ∷ 128 ∷ 17 ∷ []
-    are = read-values bytes _ (ack .reads)
+    are = read-values (c .setup .subnet) bytes _ (ack .reads)
 
     there : headerOf bytes .destination ≡ address (c .setup) position
     there = ap (λ (l : List ℕ). getD l 0 0) are ∙ ack .sender

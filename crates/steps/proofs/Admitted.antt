@@ -1,4 +1,4 @@
--- What holds of bytes that pass the rules of a frame (01, "Order"): which rules there are before a wait looks at them, and in which order, is used here alone.
+-- What holds of bytes that pass the rules of a frame (01, "Order"), so that whoever has passed them need not know which stands where.
 use Prim.Native.Nat.{ℕ}
 use mathlib.Core.Path.{_≡_}
 use mathlib.Core.Bool.{true}
@@ -6,24 +6,24 @@ use mathlib.Core.List.{List}
 use borrow.Author.Tests.{not-false}
 use Rattle.refusal.proofs.Rules.{Passed, passed-both}
 use Rattle.frame.specs.Frame.{headerOf, readRules}
-use Rattle.frame.proofs.Told.{Whole, whole}
+use Rattle.frame.proofs.Told.{Read, passed-read}
 use Rattle.board.specs.declared.Node.{Node}
 use Rattle.coordinator.specs.declared.Coordinator.{Coordinator}
 use Rattle.coordinator.specs.declared.Phase.{Phase}
 use Rattle.coordinator.specs.Fit.{fits}
 use Rattle.steps.specs.Receive.{awaits, listenRules, receiveRules}
 
--- coordinator and records are fit, the bytes are a whole frame, and its source is awaited
+-- coordinator and records are fit, the bytes read well under our subnet, and their source is awaited
 pub record Admitted (phase : Phase) (c : Coordinator) (t : List Node) (b : List ℕ) : Type 0 where
   pub fit : fits c t ≡ true
-  pub bytes : Whole b
+  pub read : Read (c .setup .subnet) b
   pub awaited : awaits phase (c .setup) (headerOf b .source) ≡ true
 
 pub admitted : (phase : Phase) (c : Coordinator) (t : List Node) (b : List ℕ) → Passed (receiveRules phase c t b) → Admitted phase c t b
 admitted phase c t b ok =
-    let parts = passed-both (readRules b) (listenRules phase c (headerOf b)) (ok .1) in
+    let parts = passed-both (readRules (c .setup .subnet) b) (listenRules phase c (headerOf b)) (ok .1) in
     record {
       fit = not-false _ (ok .0);
-      bytes = whole b (parts .0);
+      read = passed-read (c .setup .subnet) b (parts .0);
       awaited = not-false _ (parts .1 .1 .1 .0);
     }

@@ -140,9 +140,9 @@ listenRules phase c h =
     (isStray phase (c .kept) (h .message), NotDiscovering) ∷
     (not (awaits phase (c .setup) (h .source)), NotAwaited) ∷ []
 
--- when bytes are refused before a wait looks at them: 22, then 1 to 4, and those; 7 to 9 and then 11 follow in `takenIn` (01, "Order")
+-- when bytes are refused before a wait looks at them: 22, then 1 to 4 and 24, then 5, 23 and 6; 7 to 9 and then 11 follow in `takenIn` (01, "Order"; 02, C-11 and C-14)
 abbrev pub receiveRules : Phase → Coordinator → List Node → List ℕ → List (Bool × Refusal)
-receiveRules phase c t b = (not (fits c t), StateUnfit) ∷ (readRules b ++ listenRules phase c (headerOf b))
+receiveRules phase c t b = (not (fits c t), StateUnfit) ∷ (readRules (c .setup .subnet) b ++ listenRules phase c (headerOf b))
 
 unfoldable pub receiveIn : Phase → Coordinator → List Node → List ℕ → ℕ → After
 receiveIn phase c t b room = ruled (receiveRules phase c t b) (refused c t) (takenIn phase c t (headerOf b) (payload b) room)

@@ -15,7 +15,8 @@ use Rattle.refusal.proofs.Numbers.{not-zero}
 use Rattle.refusal.proofs.Rules.{Passed, passed, unrefused}
 use Rattle.frame.specs.declared.Header.{Header}
 use Rattle.frame.specs.Frame.{headerOf, ReadsWell, payloadOf, frameOf}
-use Rattle.frame.proofs.RoundTrip.{reads-back, reads-back-payload}
+use Rattle.frame.proofs.Subnets.{takes-own}
+use Rattle.frame.proofs.RoundTrip.{reads-back, reads-back-own, reads-back-all}
 use Rattle.board.specs.declared.Node.{Node}
 use Rattle.board.specs.declared.Wanted.the-variants.{Listed as ListedOnes, Owed}
 use Rattle.board.specs.Table.{at, listedAt}
@@ -47,9 +48,9 @@ use Rattle.steps.specs.After.{After, refused, waits, seeks}
 use Rattle.steps.specs.Turn.{Due, dueCarried, dueList, dueOffer, dueIdentify, dueAssign, dueOwn, dueIn, isDue, owedTo, sent, turnRules, turnIn, turnOf}
 use Rattle.steps.proofs.Shows.{same-told}
 
--- bytes that go to a position of the pool: they read as a good frame, to its address, from 255, in our subnet (01, "Turn" and "Forward and return"; 02, C-11)
+-- bytes that go to a position of the pool: they read as a good frame in our subnet, to its address, from 255 (01, "Turn" and "Forward and return"; 02, C-11)
 pub record Reaches (c : Coordinator) (position : ℕ) (bytes : List ℕ) : Type 0 where
-  pub good : ReadsWell bytes
+  pub good : ReadsWell (c .setup .subnet) bytes
   pub destination : headerOf bytes .destination ≡ address (c .setup) position
   pub from : 1 ≤ headerOf bytes .destination
   pub upTo : headerOf bytes .destination ≤ 254
@@ -61,9 +62,9 @@ pub record Goes (c : Coordinator) (t : List Node) (board : ℕ) (bytes : List �
   pub listed : listedAt t board ≡ true
   pub reaches : Reaches c board bytes
 
--- bytes that go to whoever has no address yet: they read as a good frame, to 0, from 255, in subnet 0 (02, C-11; 003, 6.6 and 6.7)
+-- bytes that go to whoever has no address yet: they read as a good frame in every subnet, to 0, from 255, in subnet 0 (02, C-11; 003, 6.6 and 6.7)
 pub record Broadcast (bytes : List ℕ) : Type 0 where
-  pub good : ReadsWell bytes
+  pub good : (ours : ℕ) → ReadsWell ours bytes
   pub destination : headerOf bytes .destination ≡ 0
   pub source : headerOf bytes .source ≡ 255
   pub subnet : headerOf bytes .subnet ≡ 0
@@ -76,7 +77,7 @@ pub record Holds (kind message packet method parameter1 parameter2 : ℕ) (paylo
   pub methodIs : headerOf bytes .method ≡ method
   pub parameter1Is : headerOf bytes .parameter1 ≡ parameter1
   pub parameter2Is : headerOf bytes .parameter2 ≡ parameter2
-  pub payloadIs : payloadOf bytes ≡ payload
+  pub payloadIs : payloadOf (headerOf bytes .subnet) bytes ≡ payload
 
 -- bytes that carry a message: its source node type, type, packet number, method, parameter 1 and payload, and this parameter 2 (01, "Forward and return")
 abbrev pub Carries : Kept → ℕ → List ℕ → Type 0
@@ -106,7 +107,7 @@ pub frame-reaches : (c : Coordinator) (h : Header) (p : List ℕ) (position : �
 unfolding frameOf
 frame-reaches c h p position fit here small destination source subnet =
     record {
-      good = reads-back h p small;
+      good = reads-back h p small (c .setup .subnet) (rw subnet (takes-own (c .setup .subnet)));
       destination = destination;
       from = rw destination (address-from (c .setup) fit position here);
       upTo = rw destination (address-upTo (c .setup) fit position here);
@@ -117,12 +118,12 @@ frame-reaches c h p position fit here small destination source subnet =
 -- a broadcast of ours is one
 pub frame-broadcast : (message packet : ℕ) (p : List ℕ) → length p ≤ 240 → Broadcast (frameOf (broadcastHeader message packet) p)
 unfolding frameOf broadcastHeader
-frame-broadcast message packet p small = record { good = reads-back (broadcastHeader message packet) p small; destination = refl; source = refl; subnet = refl }
+frame-broadcast message packet p small = record { good = λ ours. reads-back-all (broadcastHeader message packet) p small refl ours .0; destination = refl; source = refl; subnet = refl }
 
 -- a frame holds what its header says, and its payload
 holds-back : (h : Header) (p : List ℕ) → length p ≤ 240 → Holds (h .kind) (h .message) (h .packet) (h .method) (h .parameter1) (h .parameter2) p (frameOf h p)
 unfolding frameOf
-holds-back h p small = record { kindIs = refl; messageIs = refl; packetIs = refl; methodIs = refl; parameter1Is = refl; parameter2Is = refl; payloadIs = reads-back-payload h p small }
+holds-back h p small = record { kindIs = refl; messageIs = refl; packetIs = refl; methodIs = refl; parameter1Is = refl; parameter2Is = refl; payloadIs = reads-back-own h p small .1 }
 
 -- and so does a broadcast
 pub broadcast-holds : (message packet : ℕ) (p : List ℕ) → length p ≤ 240 → Holds 165 message packet 0 0 0 p (frameOf (broadcastHeader message packet) p)

@@ -6,6 +6,9 @@ use frame::Writing;
 use libc::STDOUT_FILENO;
 use refusal::Refusal;
 
+// The subnet in which the cases are read, but where one says another.
+const SUBNET: u8 = 3;
+
 fn print_text(text: &[u8]) {
     io::write_all(STDOUT_FILENO, text);
 }
@@ -85,12 +88,17 @@ fn check_case(label: &[u8], body: &[u8]) {
     print_text(b"\n");
 }
 
-fn read_case(label: &[u8], bytes: &[u8]) {
+// Prints what is read in a subnet, and the payload.
+fn read_in(label: &[u8], ours: u8, bytes: &[u8]) {
     print_text(label);
-    print_reading(frame::read(bytes));
+    print_reading(frame::read(ours, bytes));
     print_text(b", payload:");
-    print_bytes(frame::payload(bytes));
+    print_bytes(frame::payload(ours, bytes));
     print_text(b"\n");
+}
+
+fn read_case(label: &[u8], bytes: &[u8]) {
+    read_in(label, SUBNET, bytes);
 }
 
 // Prints what writing did, and all of the lent bytes as they are afterwards.
@@ -126,7 +134,7 @@ fn write_case(label: &[u8], payload: &[u8], out: &mut [u8], beside: &mut [u8]) {
 // Prints the finding: found with start, length and starts tried; nothing or spent with starts tried.
 fn find_case(label: &[u8], bytes: &[u8], budget: usize) {
     print_text(label);
-    print_finding(finder::find(bytes, budget));
+    print_finding(finder::find(SUBNET, bytes, budget));
     print_text(b"\n");
 }
 
@@ -183,6 +191,35 @@ fn refused_cases() {
     read_case(
         b"the first case with last byte 6e:",
         b"\x02\xff\x03\x00\x00\x00\xa5\x00\x00\x00\x3d\x6e",
+    );
+}
+
+// A frame is read in its own subnet, and with 0 in every one; 24 comes after 4.
+fn subnet_cases() {
+    read_in(
+        b"the first case, read in subnet 4:",
+        4,
+        b"\x02\xff\x03\x00\x00\x00\xa5\x00\x00\x00\x3d\x6d",
+    );
+    read_in(
+        b"the first case, read in subnet 0:",
+        0,
+        b"\x02\xff\x03\x00\x00\x00\xa5\x00\x00\x00\x3d\x6d",
+    );
+    read_in(
+        b"the first case with last byte 6e, read in subnet 4:",
+        4,
+        b"\x02\xff\x03\x00\x00\x00\xa5\x00\x00\x00\x3d\x6e",
+    );
+    read_in(
+        b"2 bytes of payload, read in subnet 4:",
+        4,
+        b"\x02\xff\x03\x00\x00\x00\xa5\x00\x00\x02\x06\x07\x6a\x31",
+    );
+    read_in(
+        b"44 ff, whose subnet is 0, read in subnet 4:",
+        4,
+        b"\x00\x00\x00\x00\x00\x11\x00\x00\x00\x00\x44\xff",
     );
 }
 
@@ -250,11 +287,32 @@ fn find_cases() {
     );
 }
 
+// A frame of another subnet is passed over, and one of ours in its payload is found.
+fn other_cases() {
+    find_case(
+        b"a frame of subnet 4, budget 2^64 - 1:",
+        b"\x02\xff\x04\x00\x00\x00\xa5\x00\x00\x00\x34\x75",
+        18446744073709551615,
+    );
+    find_case(
+        b"a frame of ours in the payload of one of subnet 4, budget 10:",
+        b"\x02\xff\x04\x00\x00\x00\xa5\x00\x00\x0c\x02\xff\x03\x00\x00\x00\xa5\x00\x00\x00\x3d\x6d\x2a\x1e",
+        10,
+    );
+    find_case(
+        b"the same, budget 11:",
+        b"\x02\xff\x04\x00\x00\x00\xa5\x00\x00\x0c\x02\xff\x03\x00\x00\x00\xa5\x00\x00\x00\x3d\x6d\x2a\x1e",
+        11,
+    );
+}
+
 fn main() {
     check_cases();
     good_cases();
     refused_cases();
+    subnet_cases();
     write_cases();
     tries_none_cases();
     find_cases();
+    other_cases();
 }

@@ -9,13 +9,14 @@ use lib.ListN.{length, getD}
 use lib.Dec.{eqb, leb}
 use borrow.Author.Tests.{eqb-false, leb-true}
 use Rattle.ground.specs.Below.{among}
-use Rattle.frame.specs.Frame.{headerOf, payloadOf}
+use Rattle.frame.specs.Frame.{headerOf, reading, payloadOf}
 use Rattle.board.specs.Node.{isKind, isMac}
 use Rattle.board.specs.Table.{at, listedAt}
 use Rattle.board.specs.Wanted.{someListed, indexOf}
 use Rattle.setup.specs.Setup.{isPool, address}
 use Rattle.nodelist.specs.List.{nodeList}
 use Rattle.accept.specs.Accept.{requestType}
+use Rattle.steps.specs.After.{After}
 use Rattle.series.specs.Series.{left, Input, World, Panel, Fresh, after, isAccepted, waitedFor, waitsIn, offers, accepted, stays}
 use Rattle.series.specs.Observed.{Who, nothing, saw, seen}
 use Rattle.series.specs.Demand.{WhoStays, NoTwoAlike, RoundRobin, Bounded, NeverStuck, Transmits, EndsWait, bound, joinWith, frameWith, turnWith, quietWith, Starts, Allowed, TakesJoins}
@@ -23,6 +24,7 @@ use Rattle.series.specs.AsJoined.{noted, isOwn, forwardedTo, destined, AsJoined
 use Rattle.series.specs.StoredIndex.{storedAt, carriesIndex, StoredIndex}
 use Rattle.series.specs.Exchange.{Runs, comes, reached, isRunning, OneJoin, discoveries, peopled, Seldom}
 use Rattle.series.specs.Wire.{isSending, addressed, OnTheWire}
+use Rattle.series.specs.Others.{isOthers, OthersUnheard}
 
 module _ {P : Panel} {k : ℕ} {w : World} (f : Fresh P k w) (is : List Input) where
   module _ (i : Input) (p : ℕ) where
@@ -92,7 +94,7 @@ module _ {P : Panel} {k : ℕ} {w : World} (f : Fresh P k w) (is : List Input) w
   misacknowledged received p from writes apart s = eqb-false _ _ apart (s .acknowledged k w f is received 252 p from (leb-true 1 _ writes))
 
   -- byte p of a list is another than the joins told; so is the index in an offer or a list; so is the board to which a request goes
-  pub mislisted : (p : ℕ) → waitsIn (P .step (after P w is) (turnWith 252) .says) ≡ 2 → eqb (getD (payloadOf (P .step (after P w is) (turnWith 252) .bytes)) p 0) (getD (nodeList (after P w is .coordinator .setup .internal) (noted (seen P w nothing is))) p 0) ≡ false → AsJoined P → ⊥
+  pub mislisted : (p : ℕ) → waitsIn (P .step (after P w is) (turnWith 252) .says) ≡ 2 → eqb (getD (payloadOf (after P w is .coordinator .setup .subnet) (P .step (after P w is) (turnWith 252) .bytes)) p 0) (getD (nodeList (after P w is .coordinator .setup .internal) (noted (seen P w nothing is))) p 0) ≡ false → AsJoined P → ⊥
   mislisted p lists apart s = eqb-false _ _ apart (ap (λ (bytes : List ℕ). getD bytes p 0) (s .list k w f is 252 lists))
 
   pub misindexed : isOwn (P .step (after P w is) (turnWith 252) .says) ≡ true → eqb (headerOf (P .step (after P w is) (turnWith 252) .bytes) .parameter2) (indexOf (noted (seen P w nothing is)) (waitedFor (P .step (after P w is) (turnWith 252) .says))) ≡ false → AsJoined P → ⊥
@@ -116,6 +118,13 @@ module _ {P : Panel} {k : ℕ} {w : World} (f : Fresh P k w) (is : List Input) w
   -- a transmission goes to another address than that of the board that its answer names
   pub misdirected : (i : Input) (to named : ℕ) → isSending (i .event) ≡ true → isAccepted (P .step (after P w is) i .says) ≡ true → headerOf (P .step (after P w is) i .bytes) .destination ≡ to → addressed (P .step (after P w is) i .coordinator .setup) (P .step (after P w is) i .says) ≡ named → eqb to named ≡ false → OnTheWire P → ⊥
   misdirected i to named sends taken goes tells apart s = eqb-false to named apart (sym goes ∙ s k w f is i sends taken .to ∙ tells)
+
+  -- a frame of another system is accepted; it changes the misses of a position
+  pub heard-others : (i : Input) → isOthers (after P w is .coordinator .setup) i ≡ true → isAccepted (P .step (after P w is) i .says) ≡ true → isAccepted (reading (after P w is .coordinator .setup .subnet) (i .received)) ≡ false → OthersUnheard P → ⊥
+  heard-others i others taken unread s = false≢true (sym unread ∙ sym (ap (λ (a : After). isAccepted (a .says)) (s .refused k w f is i others)) ∙ taken)
+
+  pub spared-by-others : (i : Input) (p : ℕ) → isOthers (after P w is .coordinator .setup) i ≡ true → eqb (at (P .step (after P w is) i .nodes) p .misses) (at (after P w is .nodes) p .misses) ≡ false → OthersUnheard P → ⊥
+  spared-by-others i p others apart s = eqb-false _ _ apart (ap (λ (a : After). at (a .nodes) p .misses) (s .refused k w f is i others))
 
   -- a join that the rules allow is refused
   pub turned-away : (kind mac session : ℕ) → Allowed (after P w is) kind mac → isAccepted (P .step (after P w is) (joinWith kind mac session) .says) ≡ false → TakesJoins P → ⊥

@@ -10,10 +10,11 @@ use Rattle.series.specs.AsJoined.{AsJoined}
 use Rattle.series.specs.StoredIndex.{StoredIndex}
 use Rattle.series.specs.Exchange.{OneJoin, Seldom}
 use Rattle.series.specs.Wire.{OnTheWire}
-use Rattle.wrong.specs.Wrong.{stepping, quietDoesNothing, quietChangesNothing, quietNeverDrops, offersOneBoard, onlyLooksBusy, waitsForEver, countsSinceJoining, restartsRound, hearsAnyone, listsTwice, keepsType, keepsIndexes, countsFromOne, joinsTwice, joinsInside, missesInAssign, discoversAgain, tellsAnother, takesNoSetup, takesNoJoin}
-use Rattle.wrong.specs.Trial.{before, begun, one, two, turn, quiet, missesTwice, answersBetween, anotherBetween, listed, echo, eighteenQuiets, offeredOnce, joinsAgain, retyped, retypedBelow, retypedListed, droppedBelow, joinedBelow, asksForType, firstRound, nineLists, bothJoin, twoOffers, joinedOnce, listedOnce, discover, secondFound, foundBelow, firstFound, foundRetyped, twoDiscoveries}
+use Rattle.series.specs.Others.{OthersUnheard}
+use Rattle.wrong.specs.Wrong.{stepping, quietDoesNothing, quietChangesNothing, quietNeverDrops, offersOneBoard, onlyLooksBusy, waitsForEver, countsSinceJoining, restartsRound, hearsAnyone, hearsOthers, sparesForOthers, listsTwice, keepsType, keepsIndexes, countsFromOne, joinsTwice, joinsInside, missesInAssign, discoversAgain, tellsAnother, takesNoSetup, takesNoJoin}
+use Rattle.wrong.specs.Trial.{before, begun, one, two, turn, quiet, missesTwice, answersBetween, anotherBetween, otherRequest, otherBetween, listed, echo, eighteenQuiets, offeredOnce, joinsAgain, retyped, retypedBelow, retypedListed, droppedBelow, joinedBelow, asksForType, firstRound, nineLists, bothJoin, twoOffers, joinedOnce, listedOnce, discover, secondFound, foundBelow, firstFound, foundRetyped, twoDiscoveries}
 use Rattle.wrong.proofs.Opened.{opened}
-use Rattle.wrong.proofs.Laws.{outstays, leaves-early, leaves-unasked, passed-over, starved, stuck, lingers, alike, mistyped, miscounted, mistold, miscarried, misforwarded, misacknowledged, mislisted, misindexed, misrouted, joins-again, joins-inside, discovers-often, misdirected, turned-away, not-started}
+use Rattle.wrong.proofs.Laws.{outstays, leaves-early, leaves-unasked, passed-over, starved, stuck, lingers, alike, mistyped, miscounted, mistold, miscarried, misforwarded, misacknowledged, mislisted, misindexed, misrouted, joins-again, joins-inside, discovers-often, misdirected, heard-others, spared-by-others, turned-away, not-started}
 
 -- a fresh start with one address, and with two
 from-one : {step : World → Input → After} → Fresh (stepping step) 1 (begun one)
@@ -36,6 +37,20 @@ quiet-never-drops-refuted = outstays from-one missesTwice quiet 1 refl refl refl
 pub hears-anyone-refuted : WhoStays hearsAnyone → ⊥
 unfolding opened
 hears-anyone-refuted = outstays from-two anotherBetween quiet 1 refl refl refl
+
+-- the furnace of another system answers in its place: its misses are cleared, and the board that is gone stays
+pub spares-for-others-refuted : WhoStays sparesForOthers → ⊥
+unfolding opened
+spares-for-others-refuted = outstays from-one otherBetween quiet 1 refl refl refl
+
+pub spares-for-others-unheard : OthersUnheard sparesForOthers → ⊥
+unfolding opened
+spares-for-others-unheard = spared-by-others from-one missesTwice otherRequest 1 refl refl
+
+-- and its request is delivered
+pub hears-others-refuted : OthersUnheard hearsOthers → ⊥
+unfolding opened
+hears-others-refuted = heard-others from-one offeredOnce otherRequest refl refl refl
 
 -- a board is dropped at its first miss since it was heard
 pub counts-since-joining-refuted : WhoStays countsSinceJoining → ⊥

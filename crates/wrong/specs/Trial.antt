@@ -64,6 +64,13 @@ answersBetween = missesTwice ++ ack ∷ turn ∷ []
 abbrev pub anotherBetween : List Input
 anotherBetween = missesTwice ++ request ∷ turn ∷ []
 
+-- a request of another system's board at address 2, in subnet 4; the same, with that in place of its answer
+abbrev pub otherRequest : Input
+otherRequest = hears (255 ∷ 2 ∷ 4 ∷ 0 ∷ 0 ∷ 0 ∷ 2 ∷ 1 ∷ 0 ∷ 0 ∷ 100 ∷ 231 ∷ [])
+
+abbrev pub otherBetween : List Input
+otherBetween = missesTwice ++ otherRequest ∷ []
+
 -- it has its list, and eighteen times there is quiet
 abbrev pub listed : List Input
 listed = first ∷ turn ∷ []

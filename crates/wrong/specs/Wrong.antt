@@ -1,4 +1,4 @@
--- Wrong panels, each ours with one change: the errors that the rule book names (01, "Agreement between code and promise" and "Errors that look reasonable"), and those that discovery, retyping and stored indexes make possible (02, C-11 to C-13).
+-- Wrong panels, each ours with one change: the errors that the rule book names (01, "Agreement between code and promise" and "Errors that look reasonable"), and those that discovery, retyping, stored indexes and a second system on the line make possible (02, C-11 to C-14).
 use Prim.Native.Nat.{ℕ, _+_}
 use mathlib.Core.Bool.{Bool, _&&_, not}
 use mathlib.Core.List.{List, [], map}
@@ -8,7 +8,7 @@ use Rattle.ground.specs.Choose.{choose}
 use Rattle.ground.specs.Below.{upFrom}
 use Rattle.refusal.specs.declared.Refusal.the-variants.{NotWaiting, BadPool, Full}
 use Rattle.frame.specs.declared.Header.{Header}
-use Rattle.frame.specs.Frame.{headerOf, payloadOf, frameOf}
+use Rattle.frame.specs.Frame.{headerOf, frameOf}
 use Rattle.board.specs.declared.Node.{Node}
 use Rattle.board.specs.declared.Wanted.the-variants.{Listed, Free}
 use Rattle.board.specs.Table.{at, put, listedAt}
@@ -25,6 +25,7 @@ use Rattle.coordinator.specs.Change.{withPhase, ended}
 use Rattle.steps.specs.declared.Event.{Event}
 use Rattle.steps.specs.declared.Event.the-variants.{Join, Turn, Frame, Quiet, Discover}
 use Rattle.steps.specs.After.{After, refused, accepted, waits, rests}
+use Rattle.steps.specs.Hear.{hear}
 use Rattle.steps.specs.Turn.{dueOffer, sent}
 use Rattle.steps.specs.Receive.{payload, takenIn}
 use Rattle.steps.specs.Quiet.{missedAt}
@@ -114,10 +115,23 @@ abbrev pub restartsRound : Panel
 restartsRound =
     changedAt Turn (λ w i a. choose (eqb (getD (a .says .values) 2 0) 2) (leaving a (fromFirst (a .coordinator)) (a .nodes)) a)
 
+-- a panel that takes the frames that ours refuses by this number, as if they had passed
+abbrev hearsRefused : ℕ → Panel
+hearsRefused number =
+    changedAt Frame (λ w i a. choose (eqb (a .says .number) number) (takenIn (phaseOf (w .coordinator .stand)) (w .coordinator) (w .nodes) (headerOf (i .received)) (payload (i .received)) (i .room)) a)
+
 -- "Letting a frame from another board end the wait": a frame that ours refuses for its source alone, 6, is taken
 abbrev pub hearsAnyone : Panel
-hearsAnyone =
-    changedAt Frame (λ w i a. choose (eqb (a .says .number) 6) (takenIn (phaseOf (w .coordinator .stand)) (w .coordinator) (w .nodes) (headerOf (i .received)) (payload (i .received)) (i .room)) a)
+hearsAnyone = hearsRefused 6
+
+-- against "neither ours nor 0" (02, C-14): a frame that ours refuses for its subnet alone, 24, is taken
+abbrev pub hearsOthers : Panel
+hearsOthers = hearsRefused 24
+
+-- against "the coordinator doesn't count them as hearing a board" (02, C-14): such a frame is refused, and clears the misses of the board that is waited for
+abbrev pub sparesForOthers : Panel
+sparesForOthers =
+    changedAt Frame (λ w i a. choose (eqb (a .says .number) 24) (leaving a (a .coordinator) (hear (a .nodes) (w .coordinator .stand .board))) a)
 
 -- the record of the board that joined, at the lowest position that was free
 abbrev joinedAnew : World → After → List Node
@@ -169,7 +183,7 @@ indexMore h =
     }
 
 abbrev countedFromOne : List ℕ → List ℕ
-countedFromOne b = choose (eqb (length b) 0) b (frameOf (indexMore (headerOf b)) (payloadOf b))
+countedFromOne b = choose (eqb (length b) 0) b (frameOf (indexMore (headerOf b)) (payload b))
 
 -- against the index in parameter 2 (01, "Turn": "Own frames", and "Forward and return"): in this kind of step the frames that are written count from one, though the index on record is right (02, C-13)
 abbrev pub countsFromOne : Event → Panel

@@ -29,8 +29,13 @@ bool board_wish(struct board *board, const struct request *request) {
     return true;
 }
 
-static struct sender sender_of(const struct board *board) {
+/* Another system's board has its address there, and another subnet. */
+static struct sender sender_of(struct board *board) {
     struct sender sender = {board->now.address, board->now.subnet, board->kind};
+    if (board->faults.elsewhere > 0) {
+        board->faults.elsewhere--;
+        sender.subnet++;
+    }
     return sender;
 }
 

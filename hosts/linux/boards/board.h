@@ -39,9 +39,10 @@ struct memory {
     unsigned requests_waiting;
 };
 
-/* What orders do to the board's messages: how many do not reach it, and the noise around and in its next answer. */
+/* What orders do to the board's messages: how many do not reach it, the noise around and in its next answer, and how many
+   of its answers another system's board gives. */
 struct faults {
-    unsigned deaf, before, after, inside;
+    unsigned deaf, before, after, inside, elsewhere;
 };
 
 struct board {

@@ -4,7 +4,7 @@
 
 #include <string.h>
 
-enum { DEAF_MOST = 1000000 };
+enum { DEAF_MOST = 1000000, ELSEWHERE_MOST = 1000000 };
 
 void order_deaf(struct house *house, const struct order *order) {
     struct board *board = order_board(house, order->words[1]);
@@ -12,6 +12,14 @@ void order_deaf(struct house *house, const struct order *order) {
     if (!board || !order_number("COUNT", order->words[2], 0, DEAF_MOST, &count)) return;
     board->faults.deaf = count;
     tell("ok %s does not hear the next %u messages to it", board->name, count);
+}
+
+void order_elsewhere(struct house *house, const struct order *order) {
+    struct board *board = order_board(house, order->words[1]);
+    unsigned count;
+    if (!board || !order_number("COUNT", order->words[2], 0, ELSEWHERE_MOST, &count)) return;
+    board->faults.elsewhere = count;
+    tell("ok another system's board gives the next %u answers of %s", count, board->name);
 }
 
 static void noise_now(struct house *house, const char *word) {

@@ -24,6 +24,7 @@ static const struct {
     {"unplug", 2, 2, order_unplug, "unplug NAME", "off the line; its own clock goes on"},
     {"power", 3, 3, order_power, "power on|off NAME|all", "power comes back, or goes"},
     {"deaf", 3, 3, order_deaf, "deaf NAME COUNT", "the next COUNT messages to it do not reach it"},
+    {"elsewhere", 3, 3, order_elsewhere, "elsewhere NAME COUNT", "its next COUNT answers have another system's subnet"},
     {"noise", 2, 4, order_noise, "noise COUNT, noise NAME before|after|inside COUNT",
      "random bytes now, or at its next answer; inside: COUNT of its bytes changed"},
     {"heat", 3, 3, order_heat, "heat NAME PERCENT", "it sends a heat demand at its next offer"},

@@ -1,4 +1,5 @@
-//! Lists the frames in the first 4,096 bytes of standard input (01).
+//! Lists the frames of subnets 3 and 0 in the first 4,096 bytes of standard input
+//! (01; C-14).
 
 use reference::finder::{self, INPUT_LIMIT};
 use std::io::{self, Read, Write};

@@ -145,12 +145,12 @@ mod tests {
     /// so the seed is one whose first drop is of a board that the host brought.
     #[test]
     fn a_drop_is_shrunk_to_a_join_and_three_misses() {
-        let (text, left) = told(&Task { seed: 2, lines: 3000, captures: 0..0 }, "mismatch.txt");
+        let (text, left) = told(&Task { seed: 5, lines: 3000, captures: 0..0 }, "mismatch.txt");
         let left = String::from_utf8(left).unwrap();
         let steps: Vec<&str> = left.lines().map(|line| line.split(' ').next().unwrap()).collect();
         let expected = ["setup", "join", "turn", "quiet", "turn", "quiet", "turn", "quiet"];
         assert_eq!(steps, expected, "{text}");
-        assert!(text.starts_with("the script of seed 2: answer "));
+        assert!(text.starts_with("the script of seed 5: answer "));
         assert!(text.contains("shrunk from 3000 lines to 8 by "));
         let end = "its answer 8 differs:\n  ours       rest 1\n  reference  rest dropped 1\n";
         assert!(text.ends_with(end), "{text}");

@@ -157,7 +157,7 @@ fn accepted_how(before: &Panel, line: &str, after: &Panel) -> String {
         Phase::ForwardDue { .. } => "passed on",
         _ => "discarded",
     };
-    match request(line) {
+    match request(before, line) {
         Some((method, _)) => format!("{wait}, method {method}, {fate}"),
         None => wait.to_string(),
     }
@@ -168,10 +168,11 @@ pub fn bytes_of(line: &str) -> Vec<u8> {
     line.split(' ').nth(2).and_then(script::pairs).unwrap_or_default()
 }
 
-/// Method and parameter 1 of the request in a `frame` line, if it holds one.
-pub fn request(line: &str) -> Option<(u8, u8)> {
+/// Method and parameter 1 of the request in a `frame` line, if this panel reads
+/// one there.
+pub fn request(panel: &Panel, line: &str) -> Option<(u8, u8)> {
     let bytes = bytes_of(line);
-    let frame = frame::read(&bytes).ok()?;
+    let frame = frame::read(&bytes, panel.coordinator.subnet).ok()?;
     (1..=127).contains(&frame.message_type).then_some((frame.method, frame.parameter1))
 }
 

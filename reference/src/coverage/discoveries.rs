@@ -5,7 +5,7 @@ use super::retypings::retyped;
 use crate::frame::{self, Fields, COORDINATOR_TYPE};
 use crate::panel::{Panel, CODE_ACK, R2R_LENGTH, RESPONSE, TYPE_R2R};
 use crate::panel::{DISCOVERED_LENGTH, IDENTIFIED_LENGTH, TYPE_DISCOVERED, TYPE_IDENTIFIED};
-use crate::state::{self, Exchange, Phase};
+use crate::state::{self, Coordinator, Exchange, Phase};
 
 /// Where a discovery stands; none if none runs.
 pub fn stage(panel: &Panel) -> Option<&'static str> {
@@ -56,7 +56,7 @@ fn begun(before: &Panel) -> &'static str {
 /// A response of the exchange where none runs.
 fn outside(before: &Panel, line: &str, head: &str) -> Option<String> {
     let bytes = bytes_of(line);
-    let frame = frame::read(&bytes).ok()?;
+    let frame = frame::read(&bytes, before.coordinator.subnet).ok()?;
     let response = (TYPE_DISCOVERED..=TYPE_IDENTIFIED).contains(&frame.message_type);
     let judged = ["refuse 23", "refuse 6", "transmit"].contains(&head);
     let name = format!("0x{:02X}", frame.message_type);
@@ -106,7 +106,8 @@ fn quiet_how(before: &Panel) -> &'static str {
 
 fn frame_how(before: &Panel, line: &str, head: &str, after: &Panel) -> &'static str {
     let bytes = bytes_of(line);
-    let (frame, wait) = match (frame::read(&bytes), before.coordinator.phase.awaited()) {
+    let Coordinator { subnet, phase, .. } = &before.coordinator;
+    let (frame, wait) = match (frame::read(&bytes, *subnet), phase.awaited()) {
         (Ok(frame), Some(wait)) => (frame, wait),
         _ => return "",
     };

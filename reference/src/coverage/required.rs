@@ -53,7 +53,7 @@ pub fn answers() -> Vec<String> {
 
 /// The numbers that there are; 17 is retired (C-23).
 pub fn numbers() -> impl Iterator<Item = u8> {
-    (1..=16).chain(18..=23)
+    (1..=16).chain(18..=24)
 }
 
 pub fn refusals() -> Vec<String> {
@@ -78,6 +78,7 @@ pub fn cases() -> Vec<String> {
     cases.extend(texts(&RETYPED));
     cases.extend(texts(&INDEX_SENT));
     cases.extend(indexes());
+    cases.extend(subnets());
     for wait in DROPS {
         cases.push(format!("quiet: rest dropped ({wait}, a miss)"));
     }
@@ -95,7 +96,7 @@ pub fn cases() -> Vec<String> {
     cases
 }
 
-const FIXED_CASES: [&str; 51] = [
+const FIXED_CASES: [&str; 52] = [
     "bad line",
     "passed over",
     "table: listed",
@@ -126,6 +127,7 @@ const FIXED_CASES: [&str; 51] = [
     "frame: refuse 9",
     "frame: refuse 11",
     "frame: refuse 22",
+    "frame: refuse 24",
     "frame: deliver",
     "frame: deliver, room to the byte",
     "frame: wait forward 0",
@@ -161,7 +163,8 @@ fn discoveries() -> Vec<String> {
     }
     for stage in STAGE_WAITS {
         cases.push(format!("turn in {stage}: refuse 18"));
-        cases.extend((1..=6).map(|number| format!("frame in {stage}: refuse {number}")));
+        let numbers = (1..=6).chain([24]);
+        cases.extend(numbers.map(|number| format!("frame in {stage}: refuse {number}")));
         cases.push(format!("frame in {stage} (another type): refuse 7"));
         cases.push(format!("frame in {stage} (another response): refuse 7"));
     }
@@ -169,6 +172,7 @@ fn discoveries() -> Vec<String> {
         cases.push(format!("join in {stage}: refuse 13"));
         cases.push(format!("turn in {stage}: refuse 11"));
         cases.push(format!("frame in {stage}: refuse 6"));
+        cases.push(format!("frame in {stage}: refuse 24"));
         cases.push(format!("quiet in {stage}: refuse 20"));
     }
     for stage in ["identify", "identify, acknowledged"] {
@@ -306,6 +310,83 @@ fn indexes() -> Vec<String> {
     moves
 }
 
+/// What each wait takes, an acknowledged one by itself, as it is answered.
+const TAKEN: [(&str, &[&str]); 9] = [
+    ("offer", &["rest", "deliver", "transmit"]),
+    ("list", &["transmit"]),
+    ("forward", &["wait forward 0", "transmit"]),
+    ("forward, acknowledged", &["transmit"]),
+    ("return", &["rest"]),
+    ("search", &["rest"]),
+    ("identify", &["wait identify 0", "transmit", "transmit joined"]),
+    ("identify, acknowledged", &["transmit", "transmit joined"]),
+    ("assign", &["transmit joined"]),
+];
+
+/// The numbers that come after 24, where a frame can get them.
+const AFTER_24: [(&str, &[u8]); 15] = [
+    ("offer", &[5, 23, 6, 7, 9, 11]),
+    ("list", &[5, 23, 6, 7, 8, 11]),
+    ("forward", &[5, 23, 6, 7, 11]),
+    ("forward, acknowledged", &[5, 23, 6, 7, 11]),
+    ("return", &[5, 23, 6, 7]),
+    ("search", &[5, 6, 7]),
+    ("identify", &[5, 6, 7, 11]),
+    ("identify, acknowledged", &[5, 6, 7, 11]),
+    ("assign", &[5, 6, 7, 8, 11]),
+    ("no wait", &[5, 23, 6]),
+    ("no wait, list due", &[5, 23, 6]),
+    ("no wait, forward due", &[5, 23, 6]),
+    ("no wait, return due", &[5, 23, 6]),
+    ("no wait, identify due", &[5, 6]),
+    ("no wait, assign due", &[5, 6]),
+];
+
+/// Frames of another subnet, and of 0 (C-14).
+fn subnets() -> Vec<String> {
+    let mut cases = texts(&OTHER_SUBNETS);
+    for (wait, answers) in TAKEN {
+        for answer in answers {
+            cases.push(format!("another subnet in {wait}: refuse 24, else {answer}"));
+            cases.push(format!("subnet 0 in {wait}: {answer}"));
+        }
+        cases.push(format!("another subnet in {wait}, ours is 0: refuse 24"));
+        cases.push(format!("subnet 0 in {wait}, ours is 0: taken"));
+        cases.push(format!("frame in {wait} after one of another subnet: taken"));
+        cases.push(format!("quiet in {wait} after one of another subnet: rest"));
+    }
+    for (place, numbers) in AFTER_24 {
+        for number in numbers {
+            cases.push(format!("another subnet in {place}: refuse 24, else refuse {number}"));
+            cases.push(format!("subnet 0 in {place}: refuse {number}"));
+        }
+    }
+    for wait in DROPS {
+        cases.push(format!("quiet in {wait} after one of another subnet: rest dropped"));
+    }
+    cases
+}
+
+const OTHER_SUBNETS: [&str; 17] = [
+    "setup: ready (subnet 0)",
+    "setup: ready (subnet 2)",
+    "setup: ready (subnet 3)",
+    "setup: ready (subnet 255)",
+    "setup: ready (another subnet)",
+    "another subnet: refuse 1",
+    "another subnet: refuse 2",
+    "another subnet: refuse 3",
+    "another subnet: refuse 4",
+    "another subnet (255): refuse 24",
+    "another subnet (one above ours): refuse 24",
+    "another subnet (one below ours): refuse 24",
+    "another subnet (a bit from ours): refuse 24",
+    "another subnet (above ours): refuse 24",
+    "another subnet (below ours): refuse 24",
+    "another subnet, a check byte 0: refuse 24",
+    "rest dropped, though another subnet answered all three times",
+];
+
 /// Each disturbance where it can be, as it has to be answered there.
 pub fn disturbances() -> Vec<String> {
     let mut names = Vec::new();
@@ -337,7 +418,8 @@ const IN_EVERY_WAIT: &[(Kind, &[&str])] = &[
     (Kind::Foreign, &["refuse 5"]),
     (Kind::Unexpected, &["refuse 7"]),
     (Kind::NoAck, &["refuse 7"]),
-    (Kind::Faults, &["refuse 4", "refuse 5", "refuse 6"]),
+    (Kind::OtherSubnet, &["refuse 24"]),
+    (Kind::Faults, &["refuse 4", "refuse 24", "refuse 5", "refuse 6"]),
 ];
 
 const SINGLE: &[(Kind, &str, &str)] = &[
@@ -362,6 +444,7 @@ const SINGLE: &[(Kind, &str, &str)] = &[
     (Kind::OtherLength, "identify", "refuse 7"),
     (Kind::OtherLength, "assign", "refuse 8"),
     (Kind::OtherEcho, "assign", "refuse 8"),
+    (Kind::OtherSubnet, "no wait", "refuse 24"),
     (Kind::Misplaced, "no wait", "refuse 23"),
     (Kind::Misplaced, "offer", "refuse 23"),
     (Kind::Misplaced, "list", "refuse 23"),

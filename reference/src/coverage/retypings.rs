@@ -63,7 +63,7 @@ impl Retypings {
     fn note_request(&self, line: &str, after: &Panel) -> Vec<String> {
         let retyped = |at| self.boards.iter().any(|board| board.mac == after.record(at).mac);
         let had = |kind| self.boards.iter().any(|board| board.was == kind);
-        match (&after.coordinator.phase, request(line)) {
+        match (&after.coordinator.phase, request(after, line)) {
             (Phase::ForwardDue { to, .. }, Some((method @ (1 | 2), _))) if retyped(*to) => {
                 vec![format!("a request of method {method} was passed on to a retyped board")]
             }

@@ -21,9 +21,10 @@ pub(super) enum Habit {
     NewSession,
     NewMac,
     Spoken,
+    Overheard,
 }
 
-const HABITS: [Habit; 8] = [
+const HABITS: [Habit; 9] = [
     Habit::Steady,
     Habit::Steady,
     Habit::Silent,
@@ -32,6 +33,7 @@ const HABITS: [Habit; 8] = [
     Habit::NewSession,
     Habit::NewMac,
     Habit::Spoken,
+    Habit::Overheard,
 ];
 
 impl Generator<'_> {
@@ -59,7 +61,9 @@ impl Generator<'_> {
             Habit::NewSession if self.rng.chance(40) => self.new_session_line(board),
             Habit::NewMac if self.rng.chance(50) => self.new_mac_line(board),
             Habit::Spoken if self.rng.chance(50) => self.other_source(board, exchange),
-            Habit::NewMac => self.silence(),
+            // it is silent, but the other system is not
+            Habit::Overheard if self.rng.chance(55) => self.overheard_answer(board, exchange),
+            Habit::NewMac | Habit::Overheard => self.silence(),
             _ => self.answer_line(board, exchange),
         }
     }
@@ -115,13 +119,12 @@ impl Generator<'_> {
 
     /// A frame from the board to the panel; what is not examined is anything.
     pub(super) fn draft(&mut self, board: usize, message_type: u8, payload: Vec<u8>) -> Draft {
-        let (subnet, kind) =
-            (self.panel().coordinator.subnet, self.panel().record(board).node_type);
+        let kind = self.panel().record(board).node_type;
         let odd = self.rng.byte();
         Draft {
             destination: COORDINATOR,
             source: self.source_of(board),
-            subnet: self.rng.pick(&[subnet, subnet, subnet, odd]),
+            subnet: self.taken_subnet(),
             method: self.rng.pick(&[0, 0, 1, 2, 3]),
             parameter1: self.rng.byte(),
             parameter2: self.rng.pick(&[0, 0, 0, odd]),

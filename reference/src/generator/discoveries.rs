@@ -174,7 +174,7 @@ impl Generator<'_> {
 
     /// What goes wrong in a wait of the exchange.
     pub(super) fn discovery_mishap(&mut self, at: usize, exchange: Exchange) -> Line {
-        match self.rng.below(28) {
+        match self.rng.below(33) {
             0 => self.cut_line(at, exchange),
             1 => self.over_long_line(at, exchange),
             2 => self.longer_line(at, exchange),
@@ -197,6 +197,7 @@ impl Generator<'_> {
             22 | 23 => self.misplaced_line(at),
             24 if self.late.is_some() => self.late_line(),
             24 => self.silence(),
+            25..=28 => self.overheard_line(at, exchange),
             _ => self.faults_line(at, exchange),
         }
     }
@@ -220,17 +221,21 @@ impl Generator<'_> {
         self.frame_line(Kind::Answers, &bytes)
     }
 
+    pub(super) fn misplaced_line(&mut self, board: usize) -> Line {
+        let bytes = self.misplaced(board).bytes();
+        self.frame_line(Kind::Misplaced, &bytes)
+    }
+
     /// A response of the exchange where none is expected, or another one than
     /// the one that is: mostly from the board awaited or from address 0.
-    pub(super) fn misplaced_line(&mut self, board: usize) -> Line {
+    pub(super) fn misplaced(&mut self, board: usize) -> Draft {
         let found = self.newcomer();
         let other = self.any_other(board);
         let (other, own) = (self.panel().address(other), self.source_of(board));
         let drafts = [self.discovered(), self.identified(board), self.addressed(board, &found)];
         let draft = drafts[self.rng.below(drafts.len())].clone();
         let source = self.rng.pick(&[draft.source, own, own, other, UNADDRESSED]);
-        let bytes = Draft { source, ..draft }.bytes();
-        self.frame_line(Kind::Misplaced, &bytes)
+        Draft { source, ..draft }
     }
 
     /// A start that ends in the middle of a discovery: the setup that follows

@@ -7,9 +7,10 @@ use crate::draft::Draft;
 use crate::line::{Kind, Line};
 use crate::state::Exchange;
 
-/// The faults behind numbers 5 to 9 and 11.
+/// The faults behind numbers 24, 5 to 9 and 11.
 #[derive(Clone, Copy)]
 enum Fault {
+    Subnet,
     Destination,
     Source,
     Type,
@@ -25,12 +26,12 @@ const NEVER_TAKEN: u8 = 128;
 fn faults_in(exchange: Exchange) -> &'static [Fault] {
     use Fault::*;
     match exchange {
-        Exchange::Offer => &[Destination, Source, Type, Method, Room],
-        Exchange::List => &[Destination, Source, Type, Echo, Room],
-        Exchange::Forward { .. } => &[Destination, Source, Type, Room],
-        Exchange::Return | Exchange::Search => &[Destination, Source, Type],
-        Exchange::Identify { .. } => &[Destination, Source, Type, Room],
-        Exchange::Assign { .. } => &[Destination, Source, Type, Echo, Room],
+        Exchange::Offer => &[Subnet, Destination, Source, Type, Method, Room],
+        Exchange::List => &[Subnet, Destination, Source, Type, Echo, Room],
+        Exchange::Forward { .. } => &[Subnet, Destination, Source, Type, Room],
+        Exchange::Return | Exchange::Search => &[Subnet, Destination, Source, Type],
+        Exchange::Identify { .. } => &[Subnet, Destination, Source, Type, Room],
+        Exchange::Assign { .. } => &[Subnet, Destination, Source, Type, Echo, Room],
     }
 }
 
@@ -60,6 +61,7 @@ impl Generator<'_> {
         room: &mut usize,
     ) {
         match fault {
+            Fault::Subnet => draft.subnet = self.other_subnet(),
             Fault::Destination => draft.destination = self.not_ours(),
             Fault::Source => draft.source = draft.source.wrapping_add(1),
             Fault::Type => draft.message_type = NEVER_TAKEN,

@@ -68,7 +68,7 @@ impl Generator<'_> {
 
     /// When nothing is awaited, something that is refused.
     pub(super) fn idle_mishap(&mut self) -> Line {
-        match self.rng.below(15) {
+        match self.rng.below(18) {
             0 => Line::plain("quiet"),
             1 | 2 => self.stray_line(),
             3 => self.bad_type_join(),
@@ -77,6 +77,7 @@ impl Generator<'_> {
             8 | 9 => self.discover_line(),
             10 => self.narrow_discover(),
             11 | 12 => self.misplaced_line(1),
+            13..=15 => self.overheard_stray(),
             _ => self.join_line(),
         }
     }

@@ -9,7 +9,7 @@ use crate::state::Exchange;
 
 impl Generator<'_> {
     pub(super) fn wait_mishap(&mut self, board: usize, exchange: Exchange) -> Line {
-        match self.rng.below(30) {
+        match self.rng.below(36) {
             0 => self.cut_line(board, exchange),
             1 => self.over_long_line(board, exchange),
             2 => self.longer_line(board, exchange),
@@ -33,13 +33,14 @@ impl Generator<'_> {
             24 => self.bad_type_join(),
             25 => self.discover_line(),
             26 | 27 => self.misplaced_line(board),
+            28..=30 => self.overheard_line(board, exchange),
             _ => self.faults_line(board, exchange),
         }
     }
 
     /// Refused by 1 or 3: the answer breaks off.
     pub(super) fn cut_line(&mut self, board: usize, exchange: Exchange) -> Line {
-        let bytes = self.answer(board, exchange).bytes();
+        let bytes = self.answer_of_any(board, exchange).bytes();
         let short = self.rng.below(12);
         let keep = self.rng.pick(&[0, 11, 12, short, bytes.len() - 1, bytes.len() - 1]);
         let kind = if keep < bytes.len() { Kind::Cut } else { Kind::Answers };
@@ -48,7 +49,7 @@ impl Generator<'_> {
 
     /// Refused by 2: n above 240, with or without that many bytes.
     pub(super) fn over_long_line(&mut self, board: usize, exchange: Exchange) -> Line {
-        let mut bytes = self.answer(board, exchange).bytes();
+        let mut bytes = self.answer_of_any(board, exchange).bytes();
         bytes[9] = self.rng.between(241, 255) as u8;
         if self.rng.chance(30) {
             bytes.resize(12 + usize::from(bytes[9]), 0x33);
@@ -58,7 +59,7 @@ impl Generator<'_> {
 
     /// Refused by 3: two frames together, or bytes behind the frame.
     pub(super) fn longer_line(&mut self, board: usize, exchange: Exchange) -> Line {
-        let mut bytes = self.answer(board, exchange).bytes();
+        let mut bytes = self.answer_of_any(board, exchange).bytes();
         if self.rng.chance(60) {
             let more = self.answer(board, exchange).bytes();
             bytes.extend(more);
@@ -71,7 +72,7 @@ impl Generator<'_> {
 
     /// Refused by 4, or by 2 or 3 if the length byte is hit.
     pub(super) fn damaged_line(&mut self, board: usize, exchange: Exchange) -> Line {
-        let mut bytes = self.answer(board, exchange).bytes();
+        let mut bytes = self.answer_of_any(board, exchange).bytes();
         let at = self.rng.below(bytes.len());
         bytes[at] ^= 1 << self.rng.below(8);
         self.frame_line(Kind::Damaged, &bytes)
@@ -218,14 +219,16 @@ impl Generator<'_> {
         self.frame_line(Kind::ZeroCheck, &bytes)
     }
 
-    /// A frame when none is awaited, from anyone.
+    /// A frame when none is awaited, from anyone, and not always for us.
     pub(super) fn stray_line(&mut self) -> Line {
         if self.late.is_some() && self.rng.chance(60) {
             return self.late_line();
         }
         if let Some(board) = self.any_listed() {
             let draft = if self.rng.chance(50) { self.own_ack(board) } else { self.request(board) };
-            return self.frame_line(Kind::Plain, &draft.bytes());
+            let (others, percent) = (self.not_ours(), 25);
+            let destination = if self.rng.chance(percent) { others } else { draft.destination };
+            return self.frame_line(Kind::Plain, &Draft { destination, ..draft }.bytes());
         }
         let count = self.rng.between(0, 40);
         let noise = self.rng.bytes(count);

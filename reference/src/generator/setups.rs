@@ -28,7 +28,9 @@ impl Generator<'_> {
     }
 
     fn setup_of(&mut self, mac: u64, pool: &[u8]) -> Line {
-        let (subnet, internal) = (self.rng.pick(&[3, 2, 0, 255]), self.rng.pick(&[1, 0, 21, 165]));
+        let any = self.rng.byte();
+        let subnet = self.rng.pick(&[3, 2, 0, 255, any]);
+        let internal = self.rng.pick(&[1, 0, 21, 165]);
         let session = self.any_session();
         let mut text = format!("setup {subnet} {internal} {mac} {session}");
         for address in pool {
@@ -63,7 +65,7 @@ impl Generator<'_> {
 
     pub(super) fn bad_mac(&mut self) -> u64 {
         let high = self.rng.draw() | (1 << 56);
-        self.rng.pick(&[0, MAX_MAC + 1, u64::MAX, high])
+        self.rng.pick(&[0, 0, MAX_MAC + 1, u64::MAX, high])
     }
 
     pub(super) fn any_session(&mut self) -> u64 {

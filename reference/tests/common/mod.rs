@@ -1,4 +1,6 @@
-//! What the tests of the steps share.
+//! What the tests of the steps share; none of them uses all of it.
+
+#![allow(dead_code)]
 
 use reference::frame::{self, Frame};
 use reference::panel::{Action, Answer, Outcome, Panel, Settings};
@@ -7,10 +9,15 @@ use reference::state::{Exchange, Phase};
 
 pub const MAC: u64 = 0x0011_2233_4455_6677;
 pub const SESSION: u64 = 0x8877_6655_4433_2211;
+pub const SUBNET: u8 = 3;
 
 pub fn ready(pool: &[u8]) -> Panel {
+    ready_on(SUBNET, pool)
+}
+
+pub fn ready_on(subnet: u8, pool: &[u8]) -> Panel {
     let mut panel = Panel::default();
-    let settings = Settings { subnet: 3, internal: 1, mac: MAC, session: SESSION, pool };
+    let settings = Settings { subnet, internal: 1, mac: MAC, session: SESSION, pool };
     assert_eq!(panel.setup(&settings), Ok(pool.len()));
     panel
 }

@@ -16,20 +16,20 @@ first-frame-requires c κs = search needs
 length-at-requires : tie.Need-length-at-requires
 length-at-requires c κs = search needs
 
-add-t9 : tie.Need-add-t9
-add-t9 c = search needs
-
 add-t10 : tie.Need-add-t10
 add-t10 c = search needs
 
+add-t11 : tie.Need-add-t11
+add-t11 c = search needs
+
 returns : tie.Need-returns
-returns c = says-found _ _ _ _ _ (c .before .before .before .before .starts-in .ensures) (c .before .before .before .least .ensures) (c .before .before .first-frame .ensures) _ (c .length-at .ensures .0) (c .before .if1 .taken)
+returns c = says-found _ _ _ _ _ _ (c .before .before .before .before .starts-in .ensures) (c .before .before .before .least .ensures) (c .before .before .first-frame .ensures) _ (c .length-at .ensures .0) (c .before .if1 .taken)
 
 returns-2 : tie.Need-returns-2
-returns-2 c = says-spent _ _ _ _ _ (c .before .before .before .before .starts-in .ensures) (c .before .before .before .least .ensures) (c .before .before .first-frame .ensures) (c .before .if1 .left) (c .if2 .taken)
+returns-2 c = says-spent _ _ _ _ _ _ (c .before .before .before .before .starts-in .ensures) (c .before .before .before .least .ensures) (c .before .before .first-frame .ensures) (c .before .if1 .left) (c .if2 .taken)
 
 returns-3 : tie.Need-returns-3
-returns-3 c = says-nothing _ _ _ _ _ (c .before .before .before .before .starts-in .ensures) (c .before .before .before .least .ensures) (c .before .before .first-frame .ensures) (c .before .if1 .left) (c .if2 .left)
+returns-3 c = says-nothing _ _ _ _ _ _ (c .before .before .before .before .starts-in .ensures) (c .before .before .before .least .ensures) (c .before .before .first-frame .ensures) (c .before .if1 .left) (c .if2 .left)
 
 pub find-spec : {M : Type 1} → statement M
 find-spec =
@@ -39,8 +39,8 @@ find-spec =
     least-requires
     first-frame-requires
     length-at-requires
-    add-t9
     add-t10
+    add-t11
     returns
     returns-2
     returns-3)

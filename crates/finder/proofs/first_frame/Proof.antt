@@ -11,10 +11,10 @@ use Rattle.finder.proofs.first_frame.Statement.{statement}
 use Rattle.finder.proofs.first_frame.Tie as tie
 
 abbrev Inv-loop : tie.InvT-loop
-Inv-loop bytes limit at₀ at = (at ≤ limit) × None (holdsFrame bytes) 0 at
+Inv-loop ours bytes limit at₀ at = (at ≤ limit) × None (holdsFrame ours bytes) 0 at
 
 abbrev μ-loop : tie.MeasureT-loop
-μ-loop bytes limit at₀ at = limit - at
+μ-loop ours bytes limit at₀ at = limit - at
 
 loop-holds : tie.Need-loop-holds Inv-loop μ-loop
 loop-holds c = (omega arith, λ i l u. absurd (let z : ⊥ = omega arith in z))
@@ -44,7 +44,7 @@ returns : tie.Need-returns Inv-loop μ-loop
 returns c =
     let s = now (c .before .before .before .before .before .before .before .args .bytes) in
     let loop = c .before .before .before .before .before .loop in
-    near-found s (loop .at) _ _ (loop .inv .1) (rw (rest-is s (loop .at)) at (c .before .first-near .ensures)) _ (c .if1 .taken) (omega arith)
+    near-found _ s (loop .at) _ _ (loop .inv .1) (rw (rest-is s (loop .at)) at (c .before .first-near .ensures)) _ (c .if1 .taken) (omega arith)
 
 add-at : tie.Need-add-at Inv-loop μ-loop
 add-at c = search needs
@@ -56,10 +56,10 @@ loop-again : tie.Need-loop-again Inv-loop μ-loop
 loop-again c =
     let s = now (c .before .before .before .before .before .before .before .args .bytes) in
     let loop = c .before .before .before .before .before .loop in
-    (omega arith, near-none s (loop .at) _ _ (loop .inv .1) (rw (rest-is s (loop .at)) at (c .before .first-near .ensures)) (c .if1 .left))
+    (omega arith, near-none _ s (loop .at) _ _ (loop .inv .1) (rw (rest-is s (loop .at)) at (c .before .first-near .ensures)) (c .if1 .left))
 
 returns-2 : tie.Need-returns-2 Inv-loop μ-loop
-returns-2 c = all-none _ _ _ (c .before .loop .inv .1) (c .before .loop .inv .0) (omega arith)
+returns-2 c = all-none _ _ _ _ (c .before .loop .inv .1) (c .before .loop .inv .0) (omega arith)
 
 pub first-frame-spec : {M : Type 1} → statement M
 first-frame-spec =

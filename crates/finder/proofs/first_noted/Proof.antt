@@ -9,29 +9,30 @@ use Rattle.ground.specs.Below.{firstOr, upFrom}
 use Rattle.ground.proofs.Firsts.{first-hit, first-miss, first-none}
 use Rattle.finder.specs.Finder.{holdsFrame}
 use Rattle.finder.specs.Trail.{sumsTo, NotedTo}
-use Rattle.finder.proofs.Trail.{none-noted, start-sums, with-room, without-room, room}
+use Rattle.finder.proofs.Trail.{none-noted, start-sums}
+use Rattle.finder.proofs.Begins.{begins, begins-not, begins-in}
 use borrow.Author.Needs.{needs}
 use Rattle.finder.proofs.first_noted.Statement.{statement}
 use Rattle.finder.proofs.first_noted.Tie as tie
 
 abbrev Inv-loop : tie.InvT-loop
-Inv-loop bytes count firsts₀ seconds₀ noted₀ before₀ at₀ firsts seconds noted before at =
+Inv-loop ours bytes count firsts₀ seconds₀ noted₀ before₀ at₀ firsts seconds noted before at =
     (at ≤ count) ×
     NotedTo bytes firsts seconds noted ×
     (4 * noted ≤ at + 252) ×
     (before ≡ sumsTo bytes at) ×
-    (firstOr count (holdsFrame bytes) (upFrom 0 count) ≡ firstOr count (holdsFrame bytes) (upFrom at (count - at)))
+    (firstOr count (holdsFrame ours bytes) (upFrom 0 count) ≡ firstOr count (holdsFrame ours bytes) (upFrom at (count - at)))
 
 abbrev μ-loop : tie.MeasureT-loop
-μ-loop bytes count firsts₀ seconds₀ noted₀ before₀ at₀ firsts seconds noted before at = count - at
+μ-loop ours bytes count firsts₀ seconds₀ noted₀ before₀ at₀ firsts seconds noted before at = count - at
 
 loop-holds : tie.Need-loop-holds Inv-loop μ-loop
 loop-holds c =
     let args = c .before .args in
-    (omega arith, none-noted (now (args .bytes)), omega arith, start-sums (now (args .bytes)), ap (λ (n : ℕ). firstOr (args .count) (holdsFrame (now (args .bytes))) (upFrom 0 n)) (let e : args .count ≡ args .count - 0 = omega arith in e))
+    (omega arith, none-noted (now (args .bytes)), omega arith, start-sums (now (args .bytes)), ap (λ (n : ℕ). firstOr (args .count) (holdsFrame (args .ours) (now (args .bytes))) (upFrom 0 n)) (let e : args .count ≡ args .count - 0 = omega arith in e))
 
-has-room-requires : tie.Need-has-room-requires Inv-loop μ-loop
-has-room-requires c κs = search needs
+can-begin-requires : tie.Need-can-begin-requires Inv-loop μ-loop
+can-begin-requires c κs = search needs
 
 length-at-requires : tie.Need-length-at-requires Inv-loop μ-loop
 length-at-requires c κs = search needs
@@ -47,7 +48,7 @@ note-requires c κs =
     let args = c .before .before .before .before .before .before .before .before .args in
     let pre = c .before .before .before .before .before .before .before .before .pre in
     let loop = c .before .before .before .before .before .before .loop in
-    let has = room (now (args .bytes)) (loop .at) (omega (arith, pre)) (sym (c .before .before .before .before .has-room .ensures) ∙ c .before .before .before .if1 .taken) in
+    let has = begins-in (args .ours) (now (args .bytes)) (loop .at) (sym (c .before .before .before .before .can-begin .ensures) ∙ c .before .before .before .if1 .taken) in
     (loop .inv .1, omega (arith, has .inside, c .before .before .length-at .ensures), omega (arith, has .small, c .before .before .length-at .ensures, pre), omega (arith, loop .inv, pre))
 
 good-at-requires : tie.Need-good-at-requires Inv-loop μ-loop
@@ -56,7 +57,7 @@ good-at-requires c κs =
     let pre = c .before .before .before .before .before .before .before .before .before .before .before .pre in
     let loop = c .before .before .before .before .before .before .before .before .before .loop in
     let long = c .before .before .before .before .before .length-at .ensures in
-    let has = room (now (args .bytes)) (loop .at) (omega (arith, pre)) (sym (c .before .before .before .before .before .before .before .has-room .ensures) ∙ c .before .before .before .before .before .before .if1 .taken) in
+    let has = begins-in (args .ours) (now (args .bytes)) (loop .at) (sym (c .before .before .before .before .before .before .before .can-begin .ensures) ∙ c .before .before .before .before .before .before .if1 .taken) in
     let far = c .before .before .note .ensures in (
       has .inside,
       omega (arith, has .small, pre),
@@ -65,7 +66,7 @@ good-at-requires c κs =
     )
 
 returns : tie.Need-returns Inv-loop μ-loop
-returns c = first-hit _ _ _ _ _ _ (c .before .before .before .before .before .before .before .before .before .before .before .loop .inv .4) (omega arith) (with-room _ _ _ (sym (c .before .before .before .before .before .before .before .before .before .has-room .ensures) ∙ c .before .before .before .before .before .before .before .before .if1 .taken) (c .before .good-at .ensures)) (c .if2 .taken)
+returns c = first-hit _ _ _ _ _ _ (c .before .before .before .before .before .before .before .before .before .before .before .loop .inv .4) (omega arith) (begins _ _ _ _ (sym (c .before .before .before .before .before .before .before .before .before .can-begin .ensures) ∙ c .before .before .before .before .before .before .before .before .if1 .taken) (c .before .good-at .ensures)) (c .if2 .taken)
 
 add-sums-on : tie.Need-add-sums-on Inv-loop μ-loop
 add-sums-on c = search needs
@@ -88,23 +89,23 @@ loop-again c =
     let loop = c .before .before .before .before .loop in
     let s = now (args .bytes) in
     let rest : args .count - loop .at - 1 ≡ args .count - (loop .at + 1) = omega arith in
-    let on : firstOr (args .count) (holdsFrame s) (upFrom (loop .at + 1) (args .count - loop .at - 1)) ≡ firstOr (args .count) (holdsFrame s) (upFrom (loop .at + 1) (args .count - (loop .at + 1))) = ap (λ (n : ℕ). firstOr (args .count) (holdsFrame s) (upFrom (loop .at + 1) n)) rest in
+    let on : firstOr (args .count) (holdsFrame (args .ours) s) (upFrom (loop .at + 1) (args .count - loop .at - 1)) ≡ firstOr (args .count) (holdsFrame (args .ours) s) (upFrom (loop .at + 1) (args .count - (loop .at + 1))) = ap (λ (n : ℕ). firstOr (args .count) (holdsFrame (args .ours) s) (upFrom (loop .at + 1) n)) rest in
     ⊎-elim
     (λ w.
-    let has = room s (loop .at) (omega (arith, pre)) (sym (c .before .before .has-room .ensures) ∙ w .0 .taken) in
+    let has = begins-in (args .ours) s (loop .at) (sym (c .before .before .can-begin .ensures) ∙ w .0 .taken) in
     let far = w .4 .ensures in (
       omega arith,
       rw (w .9, w .10, w .11) (far .0),
       omega (arith, w .11, far .1, has .small, w .1 .ensures, loop .inv),
       c .sums-on .ensures,
-      first-miss _ _ _ _ _ _ (loop .inv .4) (omega arith) (with-room _ _ _ (sym (c .before .before .has-room .ensures) ∙ w .0 .taken) (w .7 .ensures)) (w .8 .left) ∙ on,
+      first-miss _ _ _ _ _ _ (loop .inv .4) (omega arith) (begins _ _ _ _ (sym (c .before .before .can-begin .ensures) ∙ w .0 .taken) (w .7 .ensures)) (w .8 .left) ∙ on,
     ))
     (λ w. (
       omega arith,
       rw (w .1, w .2, w .3) (loop .inv .1),
       omega (arith, w .3, loop .inv),
       c .sums-on .ensures,
-      first-miss _ _ _ _ _ _ (loop .inv .4) (omega arith) (without-room s (loop .at) (sym (c .before .before .has-room .ensures) ∙ w .0 .left)) refl ∙ on,
+      first-miss _ _ _ _ _ _ (loop .inv .4) (omega arith) (begins-not (args .ours) s (loop .at) (sym (c .before .before .can-begin .ensures) ∙ w .0 .left)) refl ∙ on,
     ))
     (c .before .if1 .came)
 
@@ -118,7 +119,7 @@ first-noted-spec =
     Inv-loop
     μ-loop
     loop-holds
-    has-room-requires
+    can-begin-requires
     length-at-requires
     add-end
     add-end-2

@@ -1,13 +1,25 @@
 -- `frame::read` meets its contract: each return follows the tests that led there.
+use Prim.Native.Nat.{ℕ, _+_, _≤_}
 use native.Mathlib.Omega.{arith}
 use borrow.Author.Needs.{needs}
-use mathlib.Core.Path.{refl, sym, ap, _∙_}
-use mathlib.Core.Bool.{not}
-use borrow.Author.Tests.{le-ltb, eq-eqb}
+use borrow.Author.Tests.{le-ltb, eq-eqb, not-false, not-true}
+use mathlib.Core.Path.{_≡_, refl, sym, ap, _∙_}
+use mathlib.Core.Bool.{Bool, true, false, not}
+use mathlib.Core.List.{List}
+use lib.ListN.{length}
+use denote.Ref.{now}
 use Rattle.ground.proofs.Choices.{tests, choose-yes, choose-no, not-no}
-use Rattle.frame.specs.Frame.{reading}
+use Rattle.refusal.specs.Refusal.{refuses}
+use Rattle.fletcher.specs.Fletcher.{isGood}
+use Rattle.frame.specs.Frame.{headerOf, lengthByte, takesSubnet, reading}
+use Rattle.frame.proofs.Told.{Whole}
+use Rattle.frame.proofs.Subnets.{taken-reads, other-refused}
 use Rattle.frame.proofs.read.Statement.{statement}
 use Rattle.frame.proofs.read.Tie as tie
+
+-- past the first four tests the bytes are a frame
+frame-there : (b : List ℕ) → lengthByte b ≤ 240 → length b ≡ 12 + lengthByte b → (r : Bool) → r ≡ isGood b → not r ≡ false → Whole b
+frame-there b small long r e g = record { small = small; long = long; good = sym e ∙ not-false _ g }
 
 returns : tie.Need-returns
 unfolding reading
@@ -40,9 +52,24 @@ returns-4 c = choose-no _ _ _ _ (le-ltb _ _ (c .before .before .before .before .
 header-of-requires : tie.Need-header-of-requires
 header-of-requires c κs = search needs
 
+takes-subnet-requires : tie.Need-takes-subnet-requires
+takes-subnet-requires c κs = search needs
+
 returns-5 : tie.Need-returns-5
 unfolding reading
-returns-5 c = choose-no _ _ _ _ (le-ltb _ _ (c .before .before .before .before .before .before .if1 .left)) (choose-no _ _ _ _ (le-ltb _ _ (c .before .before .before .before .if2 .left)) (choose-no _ _ _ _ (not-no _ (eq-eqb _ _ (c .before .before .before .if3 .left))) (choose-no _ _ _ _ (ap not (sym (c .before .before .good2 .ensures)) ∙ c .before .if4 .left) (rw (c .header-of .ensures) refl))))
+returns-5 c =
+    let past = c .before .before .before in
+    let args = past .before .before .before .before .before .before .before .args in
+    let other : takesSubnet (args .ours) (headerOf (now (args .bytes)) .subnet) ≡ false = sym (rw (c .before .before .header-of .ensures) at (c .before .takes-subnet .ensures)) ∙ not-true _ (c .if5 .taken) in
+    sym (other-refused _ _ (frame-there _ (past .before .before .before .if2 .left) (past .before .before .if3 .left) _ (past .before .good2 .ensures) (past .if4 .left)) refuses _ other)
+
+returns-6 : tie.Need-returns-6
+unfolding reading
+returns-6 c =
+    let past = c .before .before .before in
+    let args = past .before .before .before .before .before .before .before .args in
+    let ours : takesSubnet (args .ours) (headerOf (now (args .bytes)) .subnet) ≡ true = sym (rw (c .before .before .header-of .ensures) at (c .before .takes-subnet .ensures)) ∙ not-false _ (c .if5 .left) in
+    rw (c .before .before .header-of .ensures) (sym (taken-reads _ _ (frame-there _ (past .before .before .before .if2 .left) (past .before .before .if3 .left) _ (past .before .good2 .ensures) (past .if4 .left)) refuses _ ours))
 
 pub read-spec : {M : Type 1} → statement M
 read-spec =
@@ -57,4 +84,6 @@ read-spec =
     good-requires
     returns-4
     header-of-requires
-    returns-5)
+    takes-subnet-requires
+    returns-5
+    returns-6)

@@ -32,28 +32,28 @@ enum-known-start : tie.Need-enum-known-start Inv-loop μ-loop
 enum-known-start c = search needs
 
 add-from : tie.Need-add-from Inv-loop μ-loop
-add-from c = let w = found-inside _ _ (c .before .start .given .1) (c .before .before .before .find .ensures) in record { fits = omega (arith, simp (length-take, length-drop) at (w .end), w .least) }
+add-from c = let w = found-inside _ _ _ (c .before .start .given .1) (c .before .before .before .find .ensures) in record { fits = omega (arith, simp (length-take, length-drop) at (w .end), w .least) }
 
 add-end : tie.Need-add-end Inv-loop μ-loop
-add-end c = let w = found-inside _ _ (c .before .start .given .1) (c .before .before .before .find .ensures) in record { fits = omega (arith, simp (length-take, length-drop) at (w .end), w .least) }
+add-end c = let w = found-inside _ _ _ (c .before .start .given .1) (c .before .before .before .find .ensures) in record { fits = omega (arith, simp (length-take, length-drop) at (w .end), w .least) }
 
 sub-print-frame : tie.Need-sub-print-frame Inv-loop μ-loop
-sub-print-frame c = let w = found-inside _ _ (c .before .start .given .1) (c .before .before .before .find .ensures) in omega (arith, simp (length-take, length-drop) at (w .end), w .least)
+sub-print-frame c = let w = found-inside _ _ _ (c .before .start .given .1) (c .before .before .before .find .ensures) in omega (arith, simp (length-take, length-drop) at (w .end), w .least)
 
 part-print-frame-start : tie.Need-part-print-frame-start Inv-loop μ-loop
-part-print-frame-start c = let w = found-inside _ _ (c .before .start .given .1) (c .before .before .before .find .ensures) in omega (arith, simp (length-take, length-drop) at (w .end), w .least)
+part-print-frame-start c = let w = found-inside _ _ _ (c .before .start .given .1) (c .before .before .before .find .ensures) in omega (arith, simp (length-take, length-drop) at (w .end), w .least)
 
 part-print-frame-end : tie.Need-part-print-frame-end Inv-loop μ-loop
-part-print-frame-end c = let w = found-inside _ _ (c .before .start .given .1) (c .before .before .before .find .ensures) in omega (arith, simp (length-take, length-drop) at (w .end), w .least)
+part-print-frame-end c = let w = found-inside _ _ _ (c .before .start .given .1) (c .before .before .before .find .ensures) in omega (arith, simp (length-take, length-drop) at (w .end), w .least)
 
 print-frame-requires : tie.Need-print-frame-requires Inv-loop μ-loop
 print-frame-requires c κs = search needs
 
 loop-less : tie.Need-loop-less Inv-loop μ-loop
-loop-less c = let w = found-inside _ _ (c .before .before .before .start .given .1) (c .before .before .before .before .before .find .ensures) in omega (arith, simp (length-take, length-drop) at (w .end), w .least)
+loop-less c = let w = found-inside _ _ _ (c .before .before .before .start .given .1) (c .before .before .before .before .before .find .ensures) in omega (arith, simp (length-take, length-drop) at (w .end), w .least)
 
 loop-again : tie.Need-loop-again Inv-loop μ-loop
-loop-again c = let w = found-inside _ _ (c .before .before .before .start .given .1) (c .before .before .before .before .before .find .ensures) in omega (arith, simp (length-take, length-drop) at (w .end), w .least)
+loop-again c = let w = found-inside _ _ _ (c .before .before .before .start .given .1) (c .before .before .before .before .before .find .ensures) in omega (arith, simp (length-take, length-drop) at (w .end), w .least)
 
 enum-told : tie.Need-enum-told Inv-loop μ-loop
 enum-told c = search needs

@@ -1,6 +1,8 @@
 -- `receive::receive` meets its contract: the refusals of the reader, then what a good frame gets.
 use native.Mathlib.Omega.{arith}
+use mathlib.Core.Path.{_≡_}
 use denote.Ref.{now}
+use Rattle.frame.specs.Frame.{told, reading}
 use Rattle.frame.proofs.Told.{read-frame}
 use Rattle.change.proofs.Making.{shows-as}
 use Rattle.receive.proofs.Leaving.{shows-refused, received-unread, received-read, part-is, brings-read}
@@ -16,7 +18,7 @@ enum-known-header c = search needs
 
 add-end : tie.Need-add-end
 add-end c =
-    let read = read-frame _ (c .before .header .given .1) (c .before .before .before .read .ensures) in
+    let read = read-frame _ _ (c .before .header .given .1) (c .before .before .before .read .ensures) in
     omega (arith, read .count, read .bytes .small)
 
 sub-listened : tie.Need-sub-listened
@@ -27,7 +29,7 @@ part-listened-start c = search needs
 
 part-listened-end : tie.Need-part-listened-end
 part-listened-end c =
-    let read = read-frame _ (c .before .header .given .1) (c .before .before .before .read .ensures) in
+    let read = read-frame _ _ (c .before .header .given .1) (c .before .before .before .read .ensures) in
     omega (arith, read .count, read .bytes .long)
 
 listened-requires : tie.Need-listened-requires
@@ -45,8 +47,10 @@ same-length c = search needs
 returns : tie.Need-returns
 returns c =
     let args = c .before .before .before .before .before .before .before .before .before .before .before .args in
-    let read = read-frame _ (c .before .before .before .before .before .before .header .given .1) (c .before .before .before .before .before .before .before .before .read .ensures) in
-    λ co t s k. shows-as (now (args .out)) _ (received-read s (now (args .received)) _ (c .before .before .before .before .before .before .before .before .read .ensures) (c .before .before .before .before .before .before .header .given .1)) ((rw (part-is read) at (c .before .before .listened .ensures)) (now (args .received)) (brings-read read) co t s k)
+    let call = c .before .before .before .before .before .before .before .before .read in
+    let said : told (call .result) ≡ reading (args .seen .setup .subnet) (now (args .received)) = call .ensures in
+    let read = read-frame _ _ (c .before .before .before .before .before .before .header .given .1) said in
+    λ co t s k. shows-as (now (args .out)) _ (received-read s (now (args .received)) _ said (c .before .before .before .before .before .before .header .given .1)) ((rw (part-is read) at (c .before .before .listened .ensures)) (now (args .received)) (brings-read read) co t s k)
 
 returns-2 : tie.Need-returns-2
 returns-2 c =
