@@ -14,7 +14,8 @@ use Rattle.refusal.specs.Refusal.{Told}
 use Rattle.finder.specs.Finder.{starts, lengthAt, holdsFrame, limit, firstFrame, found, nothing, spent, finding, told}
 use Rattle.finder.specs.declared.Finding.{Finding}
 use Rattle.finder.specs.declared.Finding.the-variants.{Found}
-use Rattle.finder.proofs.Laws.{number, value, differ}
+use Rattle.finder.proofs.Laws.{value, differ}
+use Rattle.refusal.proofs.Numbers.{told-number}
 use Rattle.finder.proofs.Begins.{held}
 
 -- no good frame begins at the first n starts
@@ -64,8 +65,8 @@ pub spent-exactly : (ours : ℕ) (s : List ℕ) (budget tried : ℕ) → (findin
 spent-exactly ours s budget tried = (λ e. only e (finding-cases ours s budget), λ h. when h (finding-cases ours s budget))
   where
     only : finding ours s budget ≡ spent tried → Cases ours s budget (finding ours s budget) → NoneIn ours s budget × ((budget < starts s) × (tried ≡ budget))
-    only e (inl (i, (f, q))) = differ (number (sym q ∙ e)) (λ n. omega arith)
-    only e (inr (inl (n, (l, q)))) = differ (number (sym q ∙ e)) (λ n. omega arith)
+    only e (inl (i, (f, q))) = differ (told-number (sym q ∙ e)) (λ n. omega arith)
+    only e (inr (inl (n, (l, q)))) = differ (told-number (sym q ∙ e)) (λ n. omega arith)
     only e (inr (inr (n, (l, q)))) = (n, (l, value 0 (sym e ∙ q)))
 
     when : NoneIn ours s budget × ((budget < starts s) × (tried ≡ budget)) → Cases ours s budget (finding ours s budget) → finding ours s budget ≡ spent tried
@@ -79,13 +80,13 @@ tried-most ours s budget i long tried e = go e (finding-cases ours s budget)
   where
     go : (finding ours s budget ≡ found i long tried) ⊎ ((finding ours s budget ≡ nothing tried) ⊎ (finding ours s budget ≡ spent tried)) → Cases ours s budget (finding ours s budget) → tried ≤ budget
     go (inl e) (inl (j, (f, q))) = omega (arith, value 2 (sym e ∙ q), f .within)
-    go (inl e) (inr (inl (n, (l, q)))) = differ (number (sym e ∙ q)) (λ n. omega arith)
-    go (inl e) (inr (inr (n, (l, q)))) = differ (number (sym e ∙ q)) (λ n. omega arith)
-    go (inr (inl e)) (inl (j, (f, q))) = differ (number (sym e ∙ q)) (λ n. omega arith)
+    go (inl e) (inr (inl (n, (l, q)))) = differ (told-number (sym e ∙ q)) (λ n. omega arith)
+    go (inl e) (inr (inr (n, (l, q)))) = differ (told-number (sym e ∙ q)) (λ n. omega arith)
+    go (inr (inl e)) (inl (j, (f, q))) = differ (told-number (sym e ∙ q)) (λ n. omega arith)
     go (inr (inl e)) (inr (inl (n, (l, q)))) = omega (arith, value 0 (sym e ∙ q), l)
-    go (inr (inl e)) (inr (inr (n, (l, q)))) = differ (number (sym e ∙ q)) (λ n. omega arith)
-    go (inr (inr e)) (inl (j, (f, q))) = differ (number (sym e ∙ q)) (λ n. omega arith)
-    go (inr (inr e)) (inr (inl (n, (l, q)))) = differ (number (sym e ∙ q)) (λ n. omega arith)
+    go (inr (inl e)) (inr (inr (n, (l, q)))) = differ (told-number (sym e ∙ q)) (λ n. omega arith)
+    go (inr (inr e)) (inl (j, (f, q))) = differ (told-number (sym e ∙ q)) (λ n. omega arith)
+    go (inr (inr e)) (inr (inl (n, (l, q)))) = differ (told-number (sym e ∙ q)) (λ n. omega arith)
     go (inr (inr e)) (inr (inr (n, (l, q)))) = omega (arith, value 0 (sym e ∙ q))
 
 -- what is found lies whole in the stretch, and is no shorter than the shortest frame
@@ -98,5 +99,5 @@ found-inside {i = i} {long} {tried} ours s budget e t = go (ap told (sym e) ∙ 
   where
     go : found i long tried ≡ finding ours s budget → Cases ours s budget (finding ours s budget) → Inside s i long
     go e (inl (j, (f, q))) = record { end = omega (arith, held ours s j (f .holds) .room .inside, value 0 (e ∙ q), value 1 (e ∙ q)); least = omega (arith, value 1 (e ∙ q)) }
-    go e (inr (inl (n, (l, q)))) = differ (number (e ∙ q)) (λ n. omega arith)
-    go e (inr (inr (n, (l, q)))) = differ (number (e ∙ q)) (λ n. omega arith)
+    go e (inr (inl (n, (l, q)))) = differ (told-number (e ∙ q)) (λ n. omega arith)
+    go e (inr (inr (n, (l, q)))) = differ (told-number (e ∙ q)) (λ n. omega arith)

@@ -9,12 +9,10 @@ use borrow.Author.Tests.{lt-ltb, le-ltb}
 use Rattle.ground.specs.Below.{firstOr, upFrom}
 use Rattle.ground.proofs.Choices.{choose-yes, choose-no}
 use Rattle.refusal.specs.Refusal.{Told}
+use Rattle.refusal.proofs.Numbers.{told-number}
 use Rattle.finder.specs.declared.Finding.{Finding}
 use Rattle.finder.specs.declared.Finding.the-variants.{Found, Nothing, Spent}
 use Rattle.finder.specs.Finder.{starts, lengthAt, holdsFrame, limit, firstFrame, found, nothing, spent, finding, told}
-
-pub number : {a b : Told} → a ≡ b → a .number ≡ b .number
-number e = ap (λ (t : Told). t .number) e
 
 pub value : {a b : Told} (j : ℕ) → a ≡ b → getD (a .values) j 0 ≡ getD (b .values) j 0
 value j e = ap (λ (t : Told). getD (t .values) j 0) e
@@ -25,13 +23,13 @@ differ e ne = absurd (ne e)
 -- two findings that say the same are the same
 pub same-told : (r q : Finding) → told r ≡ told q → r ≡ q
 same-told (Found a b c) (Found x y z) e = λ i. Found (value 0 e i) (value 1 e i) (value 2 e i)
-same-told (Found a b c) (Nothing x) e = differ (number e) (λ n. omega arith)
-same-told (Found a b c) (Spent x) e = differ (number e) (λ n. omega arith)
-same-told (Nothing a) (Found x y z) e = differ (number e) (λ n. omega arith)
+same-told (Found a b c) (Nothing x) e = differ (told-number e) (λ n. omega arith)
+same-told (Found a b c) (Spent x) e = differ (told-number e) (λ n. omega arith)
+same-told (Nothing a) (Found x y z) e = differ (told-number e) (λ n. omega arith)
 same-told (Nothing a) (Nothing x) e = ap Nothing (value 0 e)
-same-told (Nothing a) (Spent x) e = differ (number e) (λ n. omega arith)
-same-told (Spent a) (Found x y z) e = differ (number e) (λ n. omega arith)
-same-told (Spent a) (Nothing x) e = differ (number e) (λ n. omega arith)
+same-told (Nothing a) (Spent x) e = differ (told-number e) (λ n. omega arith)
+same-told (Spent a) (Found x y z) e = differ (told-number e) (λ n. omega arith)
+same-told (Spent a) (Nothing x) e = differ (told-number e) (λ n. omega arith)
 same-told (Spent a) (Spent x) e = ap Spent (value 0 e)
 
 -- the numbers that the code works out are those of the definition

@@ -1,13 +1,13 @@
 -- Demand 2: what is written reads back with the frame's own subnet, and with no other but where it is 0 (02, C-14); what is read and written again is the same frame, but for a check byte 0 that becomes 255.
-use Prim.Native.Nat.{ℕ, zero, suc, _+_, _-_, _≤_, _<_}
+use Prim.Native.Nat.{ℕ, _+_, _-_, _≤_, _<_}
 use native.Mathlib.Omega.{arith}
 use mathlib.Core.Path.{_≡_, refl, sym, ap, _∙_}
 use mathlib.Core.Bool.{true, false}
-use mathlib.Core.List.{List, [], _∷_, _++_, map}
-use native.Mathlib.Numerals.{add-one}
+use mathlib.Core.List.{List, [], _∷_, _++_}
 use lib.ListN.{length, take, drop, length-append, length-drop, take-append-drop}
-use lib.Seq.{take-at, take-all, drop-cons, take-add, length-take-le}
+use lib.Seq.{take-at, take-all, take-add, length-take-le}
 use Rattle.ground.specs.Below.{upFrom}
+use Rattle.ground.proofs.Runs.{run-read}
 use Rattle.refusal.specs.Refusal.{refuses, gives}
 use Rattle.refusal.specs.declared.Refusal.the-variants.{OtherSubnet}
 use Rattle.refusal.proofs.Rules.{Passed, passed, gave}
@@ -54,17 +54,11 @@ module _ (h : Header) (p : List ℕ) (small : length p ≤ 240) where
   unfolding reading payloadOf frameOf
   unread-elsewhere ours other = (other-refused ours (frameOf h p) written-whole refuses _ other, other-refused ours (frameOf h p) written-whole (λ r. []) _ other)
 
--- the front of a list, read byte by byte
-front-bytes : (b : List ℕ) (a n : ℕ) → a + n ≤ length b → take n (drop a b) ≡ map (byte b) (upFrom a n)
-unfolding upFrom
-front-bytes b a zero h = refl
-front-bytes b a (suc n) h = rw (drop-cons b a 0 (omega arith)) (ap (λ (r : List ℕ). byte b a ∷ r) (rw (← (add-one a)) (front-bytes b (a + 1) n (omega arith))))
-
 module _ (b : List ℕ) (w : Whole b) where
   -- what the writer is given, read off the frame, is the frame up to its check bytes
   head-is : fields (headerOf b) ++ lengthByte b ∷ [] ≡ take 10 b
   unfolding upFrom
-  head-is = sym (front-bytes b 0 10 (omega (arith, w .long)))
+  head-is = sym (run-read b 0 10 (omega (arith, w .long)))
 
   body-is : body (headerOf b) (take (lengthByte b) (drop 10 b)) ≡ take (10 + lengthByte b) b
   body-is =
@@ -75,7 +69,7 @@ module _ (b : List ℕ) (w : Whole b) where
   unfolding upFrom
   tail-is =
       sym (take-all 2 (drop (10 + lengthByte b) b) (simp length-drop (omega (arith, w .long))))
-      ∙ front-bytes b (10 + lengthByte b) 2 (omega (arith, w .long))
+      ∙ run-read b (10 + lengthByte b) 2 (omega (arith, w .long))
       ∙ ap (λ (x : ℕ). byte b (10 + lengthByte b) ∷ byte b x ∷ []) (let e : 10 + lengthByte b + 1 ≡ 11 + lengthByte b = omega arith in e)
 
   split : b ≡ take (10 + lengthByte b) b ++ byte b (10 + lengthByte b) ∷ byte b (11 + lengthByte b) ∷ []

@@ -8,10 +8,10 @@ use mathlib.Core.List.{List, [], _∷_, _++_}
 use lib.Dec.{eqb}
 use borrow.Author.Tests.{eq-eqb, eqb-true, not-true}
 use Rattle.ground.proofs.Choices.{choose-yes, choose-no, or-left, or-right, either, not-yes, not-no}
-use Rattle.refusal.specs.Refusal.{Told, numberOf, refuses, gives, ruled}
+use Rattle.refusal.specs.Refusal.{numberOf, refuses, gives, ruled}
 use Rattle.refusal.specs.declared.Refusal.{Refusal}
 use Rattle.refusal.specs.declared.Refusal.the-variants.{OtherSubnet}
-use Rattle.refusal.proofs.Numbers.{not-zero, same-refused}
+use Rattle.refusal.proofs.Numbers.{same-refused, gives-not}
 use Rattle.refusal.proofs.Rules.{passed-on, stopped, Unsaid, refused-first, refused-beyond}
 use Rattle.frame.specs.Frame.{fields, headerOf, lengthByte, takesSubnet, wholeRules, subnetRules, readRules, reading}
 use Rattle.frame.proofs.Told.{Whole, whole, whole-passes}
@@ -42,19 +42,16 @@ pub other-exactly : (ours : ℕ) (b : List ℕ) → (reading ours b ≡ refuses 
 unfolding reading
 other-exactly ours b = (only, λ h. other-refused ours b (h .0) refuses _ (h .1))
   where
-    value : Told
-    value = gives (fields (headerOf b) ++ lengthByte b ∷ [])
+    values : List ℕ
+    values = fields (headerOf b) ++ lengthByte b ∷ []
 
     unsaid : Unsaid (wholeRules b) OtherSubnet
     unsaid = ((λ e. omega (arith, ap numberOf e)), ((λ e. omega (arith, ap numberOf e)), ((λ e. omega (arith, ap numberOf e)), ((λ e. omega (arith, ap numberOf e)), tt))))
 
-    never : (q : Refusal) → value ≡ refuses q → ⊥
-    never q e = not-zero q (sym (ap (λ (t : Told). t .number) e))
-
-    only : ruled (wholeRules b ++ subnetRules ours b) refuses value ≡ refuses OtherSubnet → Whole b × (takesSubnet ours (headerOf b .subnet) ≡ false)
+    only : ruled (wholeRules b ++ subnetRules ours b) refuses (gives values) ≡ refuses OtherSubnet → Whole b × (takesSubnet ours (headerOf b .subnet) ≡ false)
     only e =
-        let parts = refused-beyond refuses value same-refused never (wholeRules b) (subnetRules ours b) OtherSubnet unsaid e in
-        (whole b (parts .0), not-true _ (refused-first refuses value same-refused never _ OtherSubnet [] tt .0 (parts .1)))
+        let parts = refused-beyond refuses (gives values) same-refused (gives-not values) (wholeRules b) (subnetRules ours b) OtherSubnet unsaid e in
+        (whole b (parts .0), not-true _ (refused-first refuses (gives values) same-refused (gives-not values) _ OtherSubnet [] tt .0 (parts .1)))
 
 -- and after 1 to 4: what is no frame is refused alike in every subnet
 pub no-frame-alike : (ours theirs : ℕ) (b : List ℕ) → (Whole b → ⊥) → reading ours b ≡ reading theirs b

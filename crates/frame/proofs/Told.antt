@@ -7,9 +7,9 @@ use mathlib.Core.List.{List, [], _∷_, _++_}
 use lib.ListN.{length, getD, take, drop}
 use borrow.Author.Tests.{ltb-false, le-ltb, eqb-true, eq-eqb, not-false}
 use Rattle.ground.proofs.Choices.{not-no}
-use Rattle.refusal.specs.Refusal.{Told, gives}
+use Rattle.refusal.specs.Refusal.{gives}
 use Rattle.refusal.specs.declared.Refusal.{Refusal}
-use Rattle.refusal.proofs.Numbers.{not-zero, same-refused}
+use Rattle.refusal.proofs.Numbers.{told-values, same-refused, gives-not}
 use Rattle.refusal.proofs.Rules.{Passed, passed-both, passed, gave, refused}
 use Rattle.fletcher.specs.Fletcher.{isGood}
 use Rattle.frame.specs.declared.Header.{Header}
@@ -40,24 +40,18 @@ same-header h g n m e =
 pub same-count : (h g : Header) (n m : ℕ) → fields h ++ n ∷ [] ≡ fields g ++ m ∷ [] → n ≡ m
 same-count h g n m e = ap (λ (l : List ℕ). getD l 9 0) e
 
-values : {a b : Told} → a ≡ b → a .values ≡ b .values
-values e = ap (λ (t : Told). t .values) e
-
-number : {a b : Told} → a ≡ b → a .number ≡ b .number
-number e = ap (λ (t : Told). t .number) e
-
 -- two readings that say the same are the same
 pub same-told : (r q : Reading) → told r ≡ told q → r ≡ q
-same-told (Frame h n) (Frame g m) e = λ i. Frame (same-header h g n m (values e) i) (same-count h g n m (values e) i)
-same-told (Frame h n) (Refused q) e = absurd (not-zero q (sym (number e)))
-same-told (Refused r) (Frame g m) e = absurd (not-zero r (number e))
+same-told (Frame h n) (Frame g m) e = λ i. Frame (same-header h g n m (told-values e) i) (same-count h g n m (told-values e) i)
+same-told (Frame h n) (Refused q) e = absurd (gives-not _ q e)
+same-told (Refused r) (Frame g m) e = absurd (gives-not _ r (sym e))
 same-told (Refused r) (Refused q) e = ap Refused (same-refused r q e)
 
 -- two writings that say the same are the same
 pub same-written : (r q : Writing) → toldWritten r ≡ toldWritten q → r ≡ q
-same-written (Written n) (Written m) e = ap (λ (l : List ℕ). Written (getD l 0 0)) (values e)
-same-written (Written n) (NotWritten q) e = absurd (not-zero q (sym (number e)))
-same-written (NotWritten r) (Written m) e = absurd (not-zero r (number e))
+same-written (Written n) (Written m) e = ap (λ (l : List ℕ). Written (getD l 0 0)) (told-values e)
+same-written (Written n) (NotWritten q) e = absurd (gives-not _ q e)
+same-written (NotWritten r) (Written m) e = absurd (gives-not _ r (sym e))
 same-written (NotWritten r) (NotWritten q) e = ap NotWritten (same-refused r q e)
 
 -- what holds of bytes that are a frame, whatever its subnet

@@ -11,6 +11,7 @@ use Rattle.frame.specs.declared.Header.{Header}
 use Rattle.frame.specs.declared.Ready.{Ready}
 use Rattle.frame.specs.declared.Reading.{Reading}
 use Rattle.frame.specs.declared.Writing.{Writing}
+use Rattle.frame.specs.declared.WriteNumbers.{WriteNumbers}
 use Rattle.frame.specs.Frame.{toldWritten, writtenBytes}
 use Rattle.frame.specs.ReadyHeader.{readyBytes}
 use Rattle.frame.proofs.Told.{same-told, same-written}
@@ -20,6 +21,7 @@ use Rattle.frame.proofs.read.Reads as read
 use Rattle.frame.proofs.payload.Reads as payload
 use Rattle.frame.proofs.write.Reads as write
 use Rattle.frame.proofs.prepare.Reads as prepare
+use Rattle.frame.proofs.numbers_of.Reads as numbers
 use Rattle.frame.proofs.write_ready.Reads as write-ready
 
 pub unique-takes-subnet : (κs a s t : _) (r q : Bool) → takes-subnet.Post κs a r s → takes-subnet.Post κs a q t → r ≡ q
@@ -34,12 +36,15 @@ unique-payload κs a s t r q p p′ = p ∙ sym p′
 pub unique-prepare : (κs a s t : _) (r q : Ready) → prepare.Post κs a r s → prepare.Post κs a q t → r ≡ q
 unique-prepare κs a s t r q p p′ = p ∙ sym p′
 
+pub unique-numbers-of : (a s t : _) (r q : WriteNumbers) → numbers.Post tt a r s → numbers.Post tt a q t → r ≡ q
+unique-numbers-of a s t r q p p′ = p ∙ sym p′
+
 -- the payload and the room that are lent to a writer, and the same at its exit
 abbrev Lent : Type 0
 Lent = RefT (List ℕ) × (RefT (List ℕ) × Unit {0})
 
 -- two writings that say one thing and lay one content are one
-one-writing : {told : Told} {content o u : List ℕ} (r q : Writing) → (toldWritten r ≡ told) × (o ≡ content) → (toldWritten q ≡ told) × (u ≡ content) → (r ≡ q) × (o ≡ u)
+pub one-writing : {told : Told} {content o u : List ℕ} (r q : Writing) → (toldWritten r ≡ told) × (o ≡ content) → (toldWritten q ≡ told) × (u ≡ content) → (r ≡ q) × (o ≡ u)
 one-writing r q p p′ = (same-written r q (p .0 ∙ sym (p′ .0)), p .1 ∙ sym (p′ .1))
 
 pub unique-write : (κs : _) (a s t : Header × Lent) (r q : Writing) → write.Post κs a r s → write.Post κs a q t → (r ≡ q) × (now (s .1 .1 .0) ≡ now (t .1 .1 .0))

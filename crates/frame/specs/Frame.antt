@@ -5,7 +5,7 @@ use mathlib.Core.Bool.{Bool, _||_, not}
 use mathlib.Core.List.{List, [], _∷_, _++_}
 use lib.ListN.{length, getD, take, drop}
 use lib.Dec.{eqb, ltb}
-use Rattle.refusal.specs.Refusal.{Told, refuses, gives, ruled}
+use Rattle.refusal.specs.Refusal.{Told, value, refuses, gives, ruled}
 use Rattle.refusal.specs.declared.Refusal.{Refusal}
 use Rattle.refusal.specs.declared.Refusal.the-variants.{Short, OverLong, LengthMismatch, BadChecksum, PayloadTooLong, NoRoom, OtherSubnet}
 use Rattle.fletcher.specs.Fletcher.{isGood, checkBytes, neverZero}
@@ -13,6 +13,7 @@ use Rattle.frame.specs.declared.Header.{Header}
 use Rattle.frame.specs.declared.Reading.{Reading}
 use Rattle.frame.specs.declared.Reading.the-variants.{Frame, Refused}
 use Rattle.frame.specs.declared.Writing.{Writing}
+use Rattle.frame.specs.declared.WriteNumbers.{WriteNumbers}
 use Rattle.frame.specs.declared.Writing.the-variants.{Written, Refused as NotWritten}
 
 -- the byte at an offset
@@ -109,3 +110,7 @@ writtenBytes h p room = ruled (writeRules p room) (λ r. []) (frameOf h p)
 abbrev pub toldWritten : Writing → Told
 toldWritten (Written n) = gives (n ∷ [])
 toldWritten (NotWritten r) = refuses r
+
+-- what C is given of it: the refusal's number or 0, and the count (house)
+abbrev pub writeNumbers : Told → WriteNumbers
+writeNumbers t = record { refusal = t .number; written = value t 0 }

@@ -3,11 +3,10 @@ use fletcher::Sums;
 use refusal::Refusal;
 ghost use mathlib.Core.Path.{_≡_};
 ghost use mathlib.Core.List.{_++_, _∷_, []};
-ghost use Prim.Native.Nat.{_+_, _≤_};
+ghost use Prim.Native.Nat.{_≤_};
 ghost use lib.ListN.{length};
-ghost use lib.Seq.{paste};
 ghost use Rattle.ground.specs.Bytes.{laid};
-ghost use Rattle.frame.specs.Frame.{fields, headerOf, takesSubnet, told, reading, payloadOf, toldWritten, writing, writtenBytes};
+ghost use Rattle.frame.specs.Frame.{fields, headerOf, takesSubnet, told, reading, payloadOf, toldWritten, writing, writtenBytes, writeNumbers};
 ghost use Rattle.frame.specs.ReadyHeader.{readyOf, readyBytes, closedBytes};
 
 // The nine bytes before the payload length, in the order of the wire.
@@ -42,6 +41,13 @@ pub enum Reading {
 pub enum Writing {
     Written(usize),
     Refused(Refusal),
+}
+
+// A writing, for C: the refusal's number or 0, and the count of bytes written.
+#[repr(C)]
+pub struct WriteNumbers {
+    pub refusal: u8,
+    pub written: usize,
 }
 
 fn header_of(bytes: &[u8]) -> Header
@@ -105,18 +111,6 @@ pub fn payload(ours: u8, bytes: &[u8]) -> &[u8]
     }
 }
 
-// Copies bytes into out from `at` on.
-fn lay(out: &mut [u8], at: usize, bytes: &[u8])
-    requires { ⌜ at + length (now bytes) ≤ length (now out) ⌝ }
-    ensures { λ r. ⌜ now (out .exit) ≡ paste (now (out .entry)) at (now (bytes .entry)) (length (now (bytes .entry))) ⌝ }
-{
-    let mut i: usize = 0;
-    while i < bytes.len() {
-        out[at + i] = bytes[i];
-        i += 1;
-    }
-}
-
 // The ten bytes before the payload.
 fn head(header: Header, n: u8) -> [u8; 10]
     ensures { λ r. ⌜ r ≡ fields header ++ n ∷ [] ⌝ }
@@ -148,11 +142,11 @@ fn written(header: Header, before: Sums, from: usize, payload: &[u8], out: &mut 
         return Writing::Refused(Refusal::NoRoom);
     }
     let front = head(header, n as u8);
-    lay(out, 0, &front);
-    lay(out, 10, payload);
+    ground::lay(out, 0, &front);
+    ground::lay(out, 10, payload);
     let end = 10 + n;
     let check = fletcher::check_after(before, &out[from..end]);
-    lay(out, end, &check);
+    ground::lay(out, end, &check);
     Writing::Written(12 + n)
 }
 
@@ -161,6 +155,22 @@ pub fn write(header: Header, payload: &[u8], out: &mut [u8]) -> Writing
     ensures { λ r. ⌜ (toldWritten r ≡ writing (now (payload .entry)) (length (now (out .entry)))) × (now (out .exit) ≡ laid (writtenBytes header (now (payload .entry)) (length (now (out .entry)))) (now (out .entry))) ⌝ }
 {
     written(header, fletcher::seed(), 0, payload, out)
+}
+
+// The numbers by which C is told a writing, whichever writer's.
+pub fn numbers_of(answer: Writing) -> WriteNumbers
+    ensures { λ r. ⌜ r ≡ writeNumbers (toldWritten answer) ⌝ }
+{
+    match answer {
+        Writing::Written(n) => WriteNumbers {
+            refusal: 0,
+            written: n,
+        },
+        Writing::Refused(refusal) => WriteNumbers {
+            refusal: refusal::number(refusal),
+            written: 0,
+        },
+    }
 }
 
 // Makes a header ready: its fields, the first nine bytes of any head, are summed here once for all frames written from it.

@@ -1,5 +1,5 @@
 -- The laws of choices and of tests joined by `and`.
-use mathlib.Core.Path.{_≡_, refl, ap, _∙_, sym}
+use mathlib.Core.Path.{_≡_, refl, _∙_, sym}
 use mathlib.Core.Bool.{Bool, true, false, _&&_, _||_, not, false≢true}
 use mathlib.Core.Logic.{_⊎_, inl, inr}
 use borrow.Author.Needs.{needs}
@@ -85,10 +85,6 @@ not-no b h = rw h refl
 pub never : (b : Bool) → (b ≡ true → ⊥) → b ≡ false
 never true h = absurd (h refl)
 never false h = refl
-
--- a definition by cases at a value of which the case is known
-pub by-case {ℓ κ} : {A : Type ℓ} {B : Type κ} (f : A → B) {x y : A} {r : B} → x ≡ y → r ≡ f y → r ≡ f x
-by-case f e h = h ∙ sym (ap f e)
 
 -- what closes a return after tests, where the contract chooses by those tests
 pub ruleset tests = (needs, choose-yes, choose-no, and-yes, and-no, both, not-left, not-right, not-yes, not-no, lt-ltb, le-ltb, le-leb, lt-leb, eq-eqb, ne-eqb)

@@ -1,9 +1,11 @@
--- The numbers from a on: how many, and which stands where; and what a function makes of them. One value again and again.
-use Prim.Native.Nat.{ℕ, zero, suc, _+_, _<_}
+-- The numbers from a on: how many, and which stands where; and what a function makes of them. A part of a list, read by them. One value again and again.
+use Prim.Native.Nat.{ℕ, zero, suc, _+_, _≤_, _<_}
 use native.Mathlib.Omega.{arith}
+use native.Mathlib.Numerals.{add-one}
 use mathlib.Core.Path.{_≡_, refl, ap, _∙_}
-use mathlib.Core.List.{map}
-use lib.ListN.{length, getD, replicate}
+use mathlib.Core.List.{List, _∷_, map}
+use lib.ListN.{length, getD, take, drop, replicate}
+use lib.Seq.{drop-cons}
 use Rattle.ground.specs.Below.{upFrom}
 
 pub run-length : (a n : ℕ) → length (upFrom a n) ≡ n
@@ -22,6 +24,12 @@ unfolding upFrom
 run-map-at f a zero i d h = absurd (let z : ⊥ = omega arith in z)
 run-map-at f a (suc n) zero d h = ap f (let e : a ≡ a + 0 = omega arith in e)
 run-map-at f a (suc n) (suc i) d h = run-map-at f (a + 1) n i d (omega arith) ∙ ap f (let e : a + 1 + i ≡ a + suc i = omega arith in e)
+
+-- a part of a list, read number by number
+pub run-read : (l : List ℕ) (a n : ℕ) → a + n ≤ length l → take n (drop a l) ≡ map (λ i. getD l i 0) (upFrom a n)
+unfolding upFrom
+run-read l a zero h = refl
+run-read l a (suc n) h = rw (drop-cons l a 0 (omega arith)) (ap (λ (r : List ℕ). getD l a 0 ∷ r) (rw (← (add-one a)) (run-read l (a + 1) n (omega arith))))
 
 -- a list of one value has it everywhere, and so has what is past its end
 pub run-same {ℓ} : {A : Type ℓ} (a : A) (n i : ℕ) → getD (replicate n a) i a ≡ a

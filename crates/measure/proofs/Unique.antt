@@ -7,7 +7,7 @@ use denote.Ref.{RefT, now}
 use Rattle.frame.specs.declared.Header.{Header}
 use Rattle.frame.specs.declared.Ready.{Ready}
 use Rattle.measure.specs.declared.ReadNumbers.{ReadNumbers}
-use Rattle.measure.specs.declared.WriteNumbers.{WriteNumbers}
+use Rattle.frame.specs.declared.WriteNumbers.{WriteNumbers}
 use Rattle.measure.proofs.measure_good.Reads as good
 use Rattle.measure.proofs.measure_read.Reads as read
 use Rattle.measure.proofs.measure_write.Reads as write

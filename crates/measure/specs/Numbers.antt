@@ -1,13 +1,6 @@
 -- What a C caller is given: what an answer says, place by place, 0 where it has no such value.
-use Prim.Native.Nat.{ℕ}
-use lib.ListN.{getD}
-use Rattle.refusal.specs.Refusal.{Told}
+use Rattle.refusal.specs.Refusal.{Told, value}
 use Rattle.measure.specs.declared.ReadNumbers.{ReadNumbers}
-use Rattle.measure.specs.declared.WriteNumbers.{WriteNumbers}
-
--- the value at a place of what is said
-abbrev pub value : Told → ℕ → ℕ
-value t i = getD (t .values) i 0
 
 abbrev pub readNumbers : Told → ReadNumbers
 readNumbers t =
@@ -26,6 +19,3 @@ readNumbers t =
       };
       length = value t 9;
     }
-
-abbrev pub writeNumbers : Told → WriteNumbers
-writeNumbers t = record { refusal = t .number; written = value t 0 }

@@ -2,14 +2,14 @@
 use frame::Header;
 use frame::Reading;
 use frame::Ready;
-use frame::Writing;
+use frame::WriteNumbers;
 ghost use mathlib.Core.Path.{_≡_};
 ghost use lib.ListN.{length};
 ghost use Rattle.ground.specs.Bytes.{laid};
 ghost use Rattle.fletcher.specs.Fletcher.{isGood};
-ghost use Rattle.frame.specs.Frame.{reading, toldWritten, writing, writtenBytes};
+ghost use Rattle.frame.specs.Frame.{reading, writing, writtenBytes, writeNumbers};
 ghost use Rattle.frame.specs.ReadyHeader.{readyOf, readyBytes};
-ghost use Rattle.measure.specs.Numbers.{readNumbers, writeNumbers};
+ghost use Rattle.measure.specs.Numbers.{readNumbers};
 
 // A reading: the refusal's number or 0, and the header and the payload's length, all 0 on a refusal.
 #[repr(C)]
@@ -17,13 +17,6 @@ pub struct ReadNumbers {
     pub refusal: u8,
     pub header: Header,
     pub length: usize,
-}
-
-// A writing: the refusal's number or 0, and the count of bytes written.
-#[repr(C)]
-pub struct WriteNumbers {
-    pub refusal: u8,
-    pub written: usize,
 }
 
 // Whether bytes are good.
@@ -68,28 +61,12 @@ pub extern "C" fn measure_read(ours: u8, bytes: &[u8]) -> ReadNumbers
     }
 }
 
-// The numbers of a writing, whichever writer's.
-fn numbers_of(answer: Writing) -> WriteNumbers
-    ensures { λ r. ⌜ r ≡ writeNumbers (toldWritten answer) ⌝ }
-{
-    match answer {
-        Writing::Written(n) => WriteNumbers {
-            refusal: 0,
-            written: n,
-        },
-        Writing::Refused(refusal) => WriteNumbers {
-            refusal: refusal::number(refusal),
-            written: 0,
-        },
-    }
-}
-
 // Writes a frame.
 #[no_mangle]
 pub extern "C" fn measure_write(header: Header, payload: &[u8], out: &mut [u8]) -> WriteNumbers
     ensures { λ r. ⌜ (r ≡ writeNumbers (writing (now (payload .entry)) (length (now (out .entry))))) × (now (out .exit) ≡ laid (writtenBytes header (now (payload .entry)) (length (now (out .entry)))) (now (out .entry))) ⌝ }
 {
-    numbers_of(frame::write(header, payload, out))
+    frame::numbers_of(frame::write(header, payload, out))
 }
 
 // Makes a header ready.
@@ -105,5 +82,5 @@ pub extern "C" fn measure_prepare(header: Header) -> Ready
 pub extern "C" fn measure_write_ready(ready: Ready, payload: &[u8], out: &mut [u8]) -> WriteNumbers
     ensures { λ r. ⌜ (r ≡ writeNumbers (writing (now (payload .entry)) (length (now (out .entry))))) × (now (out .exit) ≡ laid (readyBytes ready (now (payload .entry)) (length (now (out .entry)))) (now (out .entry))) ⌝ }
 {
-    numbers_of(frame::write_ready(ready, payload, out))
+    frame::numbers_of(frame::write_ready(ready, payload, out))
 }

@@ -7,7 +7,7 @@ use lib.ListN.{getD}
 use base.Fml.{Lft}
 use denote.Ref.{RefT, now}
 use Rattle.refusal.specs.Refusal.{Told}
-use Rattle.refusal.proofs.Numbers.{not-zero, same-refused}
+use Rattle.refusal.proofs.Numbers.{same-refused, gives-not}
 use Rattle.nodelist.specs.List.{told}
 use Rattle.nodelist.specs.declared.Listing.{Listing}
 use Rattle.nodelist.specs.declared.Listing.the-variants.{Written, Refused}
@@ -18,8 +18,8 @@ use Rattle.nodelist.proofs.same_list.Reads as same-list
 -- two answers that say the same are the same
 pub same-told : (r q : Listing) → told r ≡ told q → r ≡ q
 same-told (Written m) (Written n) h = ap Written (ap (λ (t : Told). getD (t .values) 0 0) h)
-same-told (Written m) (Refused q) h = absurd (not-zero q (sym (ap (λ (t : Told). t .number) h)))
-same-told (Refused r) (Written n) h = absurd (not-zero r (ap (λ (t : Told). t .number) h))
+same-told (Written m) (Refused q) h = absurd (gives-not _ q h)
+same-told (Refused r) (Written n) h = absurd (gives-not _ r (sym h))
 same-told (Refused r) (Refused q) h = ap Refused (same-refused r q h)
 
 pub unique-list-length : (κs a s t : _) (r q : ℕ) → list-length.Post κs a r s → list-length.Post κs a q t → r ≡ q

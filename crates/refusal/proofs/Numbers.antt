@@ -7,7 +7,7 @@ use lib.Dec.{ltb}
 use lib.ListN.{getD, List·getD-eq-default}
 use borrow.Author.Tests.{ltb-true, ltb-false}
 use native.Mathlib.Omega.{arith}
-use Rattle.refusal.specs.Refusal.{numberOf, refuses, Told}
+use Rattle.refusal.specs.Refusal.{numberOf, refuses, gives, Told}
 use Rattle.refusal.specs.declared.Refusal.{Refusal}
 use Rattle.refusal.specs.declared.Refusal.the-variants.{Short, OverLong, LengthMismatch, BadChecksum, NotForUs, NotAwaited, UnexpectedType, BadEcho, BadMethod, PayloadTooLong, NoRoom, BadType, BadMac, Busy, Held, Full, AwaitingReply, NobodyListed, NotWaiting, BadPool, StateUnfit, NotDiscovering, OtherSubnet}
 
@@ -76,6 +76,17 @@ number-byte r = go (ltb (numberOf r) 256) refl
     go true e = ltb-true (numberOf r) 256 e
     go false e = absurd (past (ltb-false (numberOf r) 256 e))
 
--- two answers that refuse and say the same refuse the same
+-- two answers that say the same have one number and the same values
+pub told-number : {a b : Told} → a ≡ b → a .number ≡ b .number
+told-number e = ap (λ (t : Told). t .number) e
+
+pub told-values : {a b : Told} → a ≡ b → a .values ≡ b .values
+told-values e = ap (λ (t : Told). t .values) e
+
+-- two that refuse and say the same refuse the same
 pub same-refused : (r q : Refusal) → refuses r ≡ refuses q → r ≡ q
-same-refused r q h = same-number r q (ap (λ (t : Told). t .number) h)
+same-refused r q h = same-number r q (told-number h)
+
+-- and one that gives values refuses nothing
+pub gives-not : (vs : List ℕ) (q : Refusal) → gives vs ≡ refuses q → ⊥
+gives-not vs q e = not-zero q (sym (told-number e))

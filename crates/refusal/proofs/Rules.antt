@@ -7,7 +7,7 @@ use mathlib.Core.List.{List, [], _∷_, _++_}
 use Rattle.ground.specs.Choose.{choose}
 use Rattle.refusal.specs.Refusal.{refuses, gives, ruled, Told}
 use Rattle.refusal.specs.declared.Refusal.{Refusal}
-use Rattle.refusal.proofs.Numbers.{not-zero, same-refused}
+use Rattle.refusal.proofs.Numbers.{told-values, same-refused, gives-not}
 
 -- none of the rules holds
 abbrev pub Passed : List (Bool × Refusal) → Type 0
@@ -53,15 +53,15 @@ unrefused Accepted (rule ∷ rules) f v never h = go (unrefused Accepted rules f
 
 -- an answer that gives values passed every rule, and they are its values
 pub gave : (rules : List (Bool × Refusal)) (us vs : List ℕ) → ruled rules refuses (gives us) ≡ gives vs → Passed rules × (us ≡ vs)
-gave rules us vs h = (ok, ap (λ (t : Told). t .values) (sym (passed rules refuses (gives us) ok) ∙ h))
+gave rules us vs h = (ok, told-values (sym (passed rules refuses (gives us) ok) ∙ h))
   where
     ok : Passed rules
-    ok = unrefused (λ (t : Told). t ≡ gives vs) rules refuses (gives us) (λ q e. not-zero q (ap (λ (t : Told). t .number) e)) h
+    ok = unrefused (λ (t : Told). t ≡ gives vs) rules refuses (gives us) (λ q e. gives-not vs q (sym e)) h
 
 -- an answer that refuses does so for anything that the same rules guard
 pub refused {ℓ} : {A : Type ℓ} (rules : List (Bool × Refusal)) (us : List ℕ) (f : Refusal → A) (v : A) (q : Refusal) → ruled rules refuses (gives us) ≡ refuses q → ruled rules f v ≡ f q
 unfolding choose
-refused [] us f v q h = absurd (not-zero q (sym (ap (λ (t : Told). t .number) h)))
+refused [] us f v q h = absurd (gives-not us q h)
 refused (rule ∷ rules) us f v q h = go (refused rules us f v q) (rule .0) h
   where
     go : (ruled rules refuses (gives us) ≡ refuses q → ruled rules f v ≡ f q) → (b : Bool) → choose b (refuses (rule .1)) (ruled rules refuses (gives us)) ≡ refuses q → choose b (f (rule .1)) (ruled rules f v) ≡ f q

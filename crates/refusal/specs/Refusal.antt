@@ -2,6 +2,7 @@
 use Prim.Native.Nat.{ℕ}
 use mathlib.Core.Bool.{Bool}
 use mathlib.Core.List.{List, [], _∷_}
+use lib.ListN.{getD}
 use Rattle.ground.specs.Choose.{choose}
 use Rattle.refusal.specs.declared.Refusal.{Refusal}
 use Rattle.refusal.specs.declared.Refusal.the-variants.{Short, OverLong, LengthMismatch, BadChecksum, NotForUs, NotAwaited, UnexpectedType, BadEcho, BadMethod, PayloadTooLong, NoRoom, BadType, BadMac, Busy, Held, Full, AwaitingReply, NobodyListed, NotWaiting, BadPool, StateUnfit, NotDiscovering, OtherSubnet}
@@ -36,6 +37,10 @@ numberOf OtherSubnet = 24
 pub record Told : Type 0 where
   pub number : ℕ
   pub values : List ℕ
+
+-- the value at a place of what an answer says, 0 where it has none (house)
+abbrev pub value : Told → ℕ → ℕ
+value t i = getD (t .values) i 0
 
 -- an answer that refuses: the number alone (01, "A refusal returns its number alone")
 abbrev pub refuses : Refusal → Told

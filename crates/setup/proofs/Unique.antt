@@ -4,8 +4,7 @@ use mathlib.Core.Path.{_≡_, refl, sym, ap, _∙_}
 use mathlib.Core.Bool.{Bool}
 use mathlib.Core.List.{List}
 use base.Fml.{Lft}
-use Rattle.refusal.specs.Refusal.{Told}
-use Rattle.refusal.proofs.Numbers.{same-refused, not-zero}
+use Rattle.refusal.proofs.Numbers.{same-refused, gives-not}
 use Rattle.setup.specs.declared.Judged.{Judged}
 use Rattle.setup.specs.declared.Judged.the-variants.{Fine, Refused}
 use Rattle.setup.specs.Setup.{toldOf}
@@ -42,8 +41,8 @@ unique-boards-fit κs a s t r q p p′ = p ∙ sym p′
 -- two judgements that say the same are the same
 pub same-told : (r q : Judged) → toldOf r ≡ toldOf q → r ≡ q
 same-told Fine Fine h = refl
-same-told Fine (Refused q) h = absurd (not-zero q (sym (ap (λ (t : Told). t .number) h)))
-same-told (Refused r) Fine h = absurd (not-zero r (ap (λ (t : Told). t .number) h))
+same-told Fine (Refused q) h = absurd (gives-not _ q h)
+same-told (Refused r) Fine h = absurd (gives-not _ r (sym h))
 same-told (Refused r) (Refused q) h = ap Refused (same-refused r q h)
 
 pub unique-judge-setup : (κs : Lft × Unit {0}) (a s t : _) (r q : Judged) → judge-setup.Post κs a r s → judge-setup.Post κs a q t → r ≡ q

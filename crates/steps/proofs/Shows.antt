@@ -5,7 +5,7 @@ use mathlib.Core.List.{List, [], _∷_}
 use lib.ListN.{getD}
 use Rattle.refusal.specs.Refusal.{Told, refuses}
 use Rattle.refusal.specs.declared.Refusal.{Refusal}
-use Rattle.refusal.proofs.Numbers.{not-zero, same-refused}
+use Rattle.refusal.proofs.Numbers.{same-refused, gives-not}
 use Rattle.coordinator.specs.declared.Exchange.{Exchange}
 use Rattle.coordinator.specs.declared.Exchange.the-variants.{Offer, List as Listing, Forward, Return}
 use Rattle.steps.specs.declared.Seek.{Seek as Seeks}
@@ -36,9 +36,6 @@ sought p Assign = refl
 answerAt : List ℕ → Answer
 answerAt vs = getD (Rest ∷ waitAt (getD vs 1 0) (getD vs 2 0) ∷ Deliver ∷ Transmit ∷ Rest ∷ []) (getD vs 0 0) Rest
 
-number : {a b : Told} → a ≡ b → a .number ≡ b .number
-number e = ap (λ (t : Told). t .number) e
-
 -- the values of two answers that refuse nothing tell them apart
 data Taken : Answer → Type 0 where
   taken-wait : (b : ℕ) (e : Exchange) → Taken (Wait b e)
@@ -59,11 +56,11 @@ both-taken : {a b : Answer} → Taken a → Taken b → told a ≡ told b → a 
 both-taken p q e = sym (back p) ∙ ap (λ (t : Told). answerAt (t .values)) e ∙ back q
 
 taken-not-refused : {A : Type 0} (r : Refusal) {a : Answer} → Taken a → told a ≡ refuses r → A
-taken-not-refused r (taken-wait b x) e = absurd (not-zero r (sym (number e)))
-taken-not-refused r (taken-seek p s) e = absurd (not-zero r (sym (number e)))
-taken-not-refused r taken-deliver e = absurd (not-zero r (sym (number e)))
-taken-not-refused r taken-transmit e = absurd (not-zero r (sym (number e)))
-taken-not-refused r taken-rest e = absurd (not-zero r (sym (number e)))
+taken-not-refused r (taken-wait b x) e = absurd (gives-not _ r e)
+taken-not-refused r (taken-seek p s) e = absurd (gives-not _ r e)
+taken-not-refused r taken-deliver e = absurd (gives-not _ r e)
+taken-not-refused r taken-transmit e = absurd (gives-not _ r e)
+taken-not-refused r taken-rest e = absurd (gives-not _ r e)
 
 -- an answer that is taken, against any answer
 against : (a b : Answer) → Taken a → told a ≡ told b → a ≡ b

@@ -1,6 +1,6 @@
 -- `measure::measure_write` meets its contract: its numbers are those of what `write` says.
 use mathlib.Core.Path.{ap, _∙_}
-use Rattle.measure.specs.Numbers.{writeNumbers}
+use Rattle.frame.specs.Frame.{writeNumbers}
 use borrow.Author.Needs.{needs}
 use Rattle.measure.proofs.measure_write.Statement.{statement}
 use Rattle.measure.proofs.measure_write.Tie as tie

@@ -1,8 +1,8 @@
--- `measure::numbers_of` meets its contract, arm by arm.
+-- `frame::numbers_of` meets its contract, arm by arm.
 use mathlib.Core.Path.{refl}
 use borrow.Author.Needs.{needs}
-use Rattle.measure.proofs.numbers_of.Statement.{statement}
-use Rattle.measure.proofs.numbers_of.Tie as tie
+use Rattle.frame.proofs.numbers_of.Statement.{statement}
+use Rattle.frame.proofs.numbers_of.Tie as tie
 
 enum-known-answer : tie.Need-enum-known-answer
 enum-known-answer c = search needs
