@@ -7,17 +7,13 @@ use mathlib.Core.Logic.{inl, inr}
 use mathlib.Core.Bool.{false, _&&_}
 use mathlib.Core.List.{List}
 use lib.ListN.{length, getD, take, drop, length-drop}
-use lib.Seq.{take-all, getD-drop, drop-drop}
+use lib.Seq.{getD-drop, drop-drop}
 use lib.Dec.{leb}
 use Rattle.fletcher.specs.Fletcher.{isGood}
 use Rattle.ground.specs.Below.{firstOr, upFrom}
 use Rattle.ground.proofs.Firsts.{None, FirstCase, first-case, first-is, none-is}
 use Rattle.frame.specs.Frame.{takesSubnet}
 use Rattle.finder.specs.Finder.{lengthAt, subnetAt, holdsFrame}
-
--- the part from a place to the end is all that comes after that place
-pub rest-is : (s : List ℕ) (a : ℕ) → take (length s - a) (drop a s) ≡ drop a s
-rest-is s a = take-all (length s - a) (drop a s) (simp length-drop (omega arith))
 
 -- a frame of the rest is a frame of the stretch
 later : (ours : ℕ) (s : List ℕ) (a i : ℕ) → holdsFrame ours (drop a s) i ≡ holdsFrame ours s (a + i)

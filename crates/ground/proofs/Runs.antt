@@ -1,11 +1,11 @@
--- The numbers from a on: how many, and which stands where; and what a function makes of them. A part of a list, read by them. One value again and again.
-use Prim.Native.Nat.{ℕ, zero, suc, _+_, _≤_, _<_}
+-- The numbers from a on: how many, and which stands where; and what a function makes of them. Parts of a list. One value again and again.
+use Prim.Native.Nat.{ℕ, zero, suc, _+_, _-_, _≤_, _<_}
 use native.Mathlib.Omega.{arith}
 use native.Mathlib.Numerals.{add-one}
 use mathlib.Core.Path.{_≡_, refl, ap, _∙_}
 use mathlib.Core.List.{List, _∷_, map}
-use lib.ListN.{length, getD, take, drop, replicate}
-use lib.Seq.{drop-cons}
+use lib.ListN.{length, getD, take, drop, length-drop, replicate}
+use lib.Seq.{take-all, drop-cons}
 use Rattle.ground.specs.Below.{upFrom}
 
 pub run-length : (a n : ℕ) → length (upFrom a n) ≡ n
@@ -24,6 +24,10 @@ unfolding upFrom
 run-map-at f a zero i d h = absurd (let z : ⊥ = omega arith in z)
 run-map-at f a (suc n) zero d h = ap f (let e : a ≡ a + 0 = omega arith in e)
 run-map-at f a (suc n) (suc i) d h = run-map-at f (a + 1) n i d (omega arith) ∙ ap f (let e : a + 1 + i ≡ a + suc i = omega arith in e)
+
+-- the part from a place to the end, as code cuts it, is all that comes after that place
+pub rest-is : (l : List ℕ) (a : ℕ) → take (length l - a) (drop a l) ≡ drop a l
+rest-is l a = take-all (length l - a) (drop a l) (simp length-drop (omega arith))
 
 -- a part of a list, read number by number
 pub run-read : (l : List ℕ) (a n : ℕ) → a + n ≤ length l → take n (drop a l) ≡ map (λ i. getD l i 0) (upFrom a n)

@@ -9,7 +9,6 @@ use setup::Setup;
 use steps::Answer;
 use steps::Outcome;
 use steps::Seek;
-ghost use Rattle.io.specs.Counts.{Counts};
 
 fn write(text: &[u8]) {
     io::write_all(STDOUT_FILENO, text);
@@ -26,31 +25,11 @@ pub(crate) fn write_number(words: &[u8], n: u64) {
     write(b"\n");
 }
 
-// The hex digit of a number's last four bits.
-fn glyph(n: u8) -> u8 {
-    let low = n % 16;
-    if low < 10 { 48 + low } else { 55 + low }
-}
-
-// Spells bytes in hex, two digits a byte, as many as there is room for, and counts the digits.
-fn spell(bytes: &[u8], text: &mut [u8]) -> usize
-    ensures { λ r. ⌜ Counts r (now (text .exit)) ⌝ }
-{
-    let n = ground::least(bytes.len(), text.len() / 2);
-    let mut i: usize = 0;
-    while i < n {
-        text[2 * i] = glyph(bytes[i] / 16);
-        text[2 * i + 1] = glyph(bytes[i]);
-        i += 1;
-    }
-    2 * n
-}
-
 // A space and the bytes, where there are any.
 fn write_hex(bytes: &[u8]) {
     if 0 < bytes.len() {
         let mut text = [0u8; 2048];
-        let n = spell(bytes, &mut text);
+        let n = script::spell(bytes, &mut text);
         write(b" ");
         write(&text[..n]);
     }

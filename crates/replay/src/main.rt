@@ -1,7 +1,6 @@
 // Plays a script of steps on the panel, a line at a time, and answers each line (docs/REPLAY.md has the script's words).
 mod answer;
 mod order;
-mod words;
 
 use board::Table;
 use coordinator::Coordinator;
@@ -62,7 +61,7 @@ fn step_with(event: Event, received: &[u8], out: &mut [u8], world: World) -> Wor
     let t = world.table;
     let stepped = panel::lend_step(c, t, event, received, out);
     let outcome = stepped.outcome;
-    let written = words::within(outcome.written, out);
+    let written = script::within(outcome.written, out);
     answer::stepped(outcome, &out[..written]);
     left(stepped)
 }
@@ -70,7 +69,7 @@ fn step_with(event: Event, received: &[u8], out: &mut [u8], world: World) -> Wor
 // One step with this much room.
 fn step(event: Event, received: &[u8], room: usize, world: World) -> World {
     let mut out = [0u8; 1024];
-    let n = words::within(room, &out);
+    let n = script::within(room, &out);
     step_with(event, received, &mut out[..n], world)
 }
 
@@ -87,11 +86,11 @@ fn play_line(line: &[u8], number: u64, world: World) -> World {
             session,
             count,
         } => {
-            let n = words::within(count, &bytes);
+            let n = script::within(count, &bytes);
             set_up(&bytes[..n], subnet, internal, mac, session, world)
         }
         Order::Step { event, room, count } => {
-            let n = words::within(count, &bytes);
+            let n = script::within(count, &bytes);
             step(event, &bytes[..n], room, world)
         }
         Order::Table => {
@@ -106,16 +105,16 @@ fn play_line(line: &[u8], number: u64, world: World) -> World {
 }
 
 // Plays the lines from first to last.
-fn play(script: &[u8]) {
+fn play(lines: &[u8]) {
     let mut world = World {
         coordinator: coordinator::fresh(no_setup()),
         table: coordinator::blank_table(),
     };
     let mut number: u64 = 0;
     let mut at: usize = 0;
-    while at < script.len() {
-        let rest = &script[at..];
-        let n = words::before(rest, b'\n');
+    while at < lines.len() {
+        let rest = &lines[at..];
+        let n = script::before(rest, b'\n');
         number += 1;
         world = play_line(&rest[..n], number, world);
         let end = at + n;
@@ -129,7 +128,7 @@ fn blank_script() -> [u8; 1048576] {
 }
 
 fn main() {
-    let mut script = blank_script();
-    let n = io::read_full(STDIN_FILENO, &mut script);
-    play(&script[..n]);
+    let mut lines = blank_script();
+    let n = io::read_full(STDIN_FILENO, &mut lines);
+    play(&lines[..n]);
 }

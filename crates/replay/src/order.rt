@@ -1,6 +1,5 @@
 // What a line asks for, read off its words before anything is played.
-use crate::words;
-use crate::words::Count;
+use script::Count;
 use steps::Event;
 
 // The first words.
@@ -36,45 +35,61 @@ pub(crate) enum Order {
 
 // Four of the seven words; `word_of` has the others, and asks here last.
 fn later_word(word: &[u8]) -> Word {
-    if words::same(word, b"discover") {
+    if script::same(word, b"discover") {
         return Word::Discover;
     }
-    if words::same(word, b"frame") {
+    if script::same(word, b"frame") {
         return Word::Frame;
     }
-    if words::same(word, b"quiet") {
+    if script::same(word, b"quiet") {
         return Word::Quiet;
     }
-    if words::same(word, b"table") {
+    if script::same(word, b"table") {
         return Word::Table;
     }
     Word::Other
 }
 
 fn word_of(word: &[u8]) -> Word {
-    if words::same(word, b"setup") {
+    if script::same(word, b"setup") {
         return Word::Setup;
     }
-    if words::same(word, b"join") {
+    if script::same(word, b"join") {
         return Word::Join;
     }
-    if words::same(word, b"turn") {
+    if script::same(word, b"turn") {
         return Word::Turn;
     }
     later_word(word)
 }
 
+// The addresses from here on to the end of the line, as many as there is room for; further ones are only looked at and counted.
+fn addresses(line: &[u8], at: usize, out: &mut [u8]) -> Count {
+    let mut n: usize = 0;
+    let mut ok = true;
+    let mut from = at;
+    while from <= line.len() {
+        let f = script::field_at(line, from, 255);
+        ok = ok & f.ok;
+        let address = [script::byte(f.value)];
+        ground::lay(out, n, &address);
+        n += 1;
+        from = f.next;
+    }
+    Count { value: n, ok: ok }
+}
+
 // setup SUBNET INTERNAL MAC SESSION ADDRESS...
 fn read_setup(line: &[u8], bytes: &mut [u8]) -> Order {
-    let subnet = words::field_at(line, 6, 255);
-    let internal = words::field_at(line, subnet.next, 255);
-    let mac = words::field_at(line, internal.next, words::ANY);
-    let session = words::field_at(line, mac.next, words::ANY);
-    let n = words::addresses(line, session.next, bytes);
+    let subnet = script::field_at(line, 6, 255);
+    let internal = script::field_at(line, subnet.next, 255);
+    let mac = script::field_at(line, internal.next, script::ANY);
+    let session = script::field_at(line, mac.next, script::ANY);
+    let n = addresses(line, session.next, bytes);
     if subnet.ok & internal.ok & mac.ok & session.ok & n.ok {
         Order::Setup {
-            subnet: words::byte(subnet.value),
-            internal: words::byte(internal.value),
+            subnet: script::byte(subnet.value),
+            internal: script::byte(internal.value),
             mac: mac.value,
             session: session.value,
             count: n.value,
@@ -86,12 +101,12 @@ fn read_setup(line: &[u8], bytes: &mut [u8]) -> Order {
 
 // join TYPE MAC SESSION
 fn read_join(line: &[u8]) -> Order {
-    let kind = words::field_at(line, 5, 255);
-    let mac = words::field_at(line, kind.next, words::ANY);
-    let session = words::field_at(line, mac.next, words::ANY);
+    let kind = script::field_at(line, 5, 255);
+    let mac = script::field_at(line, kind.next, script::ANY);
+    let session = script::field_at(line, mac.next, script::ANY);
     if kind.ok & mac.ok & session.ok & (line.len() < session.next) {
         let event = Event::Join {
-            kind: words::byte(kind.value),
+            kind: script::byte(kind.value),
             mac: mac.value,
             session: session.value,
         };
@@ -107,7 +122,7 @@ fn read_join(line: &[u8]) -> Order {
 
 // turn ROOM, discover ROOM: the event, and from here on the room for what it writes
 fn read_room(line: &[u8], at: usize, event: Event) -> Order {
-    let room = words::field_at(line, at, 1024);
+    let room = script::field_at(line, at, 1024);
     if room.ok & (line.len() < room.next) {
         Order::Step {
             event: event,
@@ -119,19 +134,10 @@ fn read_room(line: &[u8], at: usize, event: Event) -> Order {
     }
 }
 
-// The bytes of a frame from here on; none past the end of the line, which is the empty frame.
-fn frame_from(line: &[u8], at: usize, bytes: &mut [u8]) -> Count {
-    if at <= line.len() {
-        words::hex(&line[at..], bytes)
-    } else {
-        Count { value: 0, ok: true }
-    }
-}
-
 // frame ROOM HEX
 fn read_frame(line: &[u8], bytes: &mut [u8]) -> Order {
-    let room = words::field_at(line, 6, 1024);
-    let n = frame_from(line, room.next, bytes);
+    let room = script::field_at(line, 6, 1024);
+    let n = script::bytes_from(line, room.next, bytes);
     if room.ok & n.ok {
         Order::Step {
             event: Event::Frame,
@@ -149,7 +155,7 @@ fn alone(line: &[u8], order: Order) -> Order {
 }
 
 fn read_words(line: &[u8], bytes: &mut [u8]) -> Order {
-    let n = words::before(line, b' ');
+    let n = script::before(line, b' ');
     let word = word_of(&line[..n]);
     match word {
         Word::Setup => read_setup(line, bytes),
@@ -170,12 +176,9 @@ fn read_words(line: &[u8], bytes: &mut [u8]) -> Order {
     }
 }
 
-// What a line asks for. An empty line and one that begins with # ask for nothing.
+// What a line asks for; one that is passed over asks for nothing.
 pub(crate) fn read_line(line: &[u8], bytes: &mut [u8]) -> Order {
-    if line.len() == 0 {
-        return Order::Pass;
-    }
-    if line[0] == b'#' {
+    if script::is_passed(line) {
         return Order::Pass;
     }
     read_words(line, bytes)

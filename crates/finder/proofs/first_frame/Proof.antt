@@ -5,7 +5,8 @@ use lib.ListN.{length-drop}
 use denote.Ref.{now}
 use Rattle.ground.proofs.Firsts.{None}
 use Rattle.finder.specs.Finder.{holdsFrame}
-use Rattle.finder.proofs.Near.{rest-is, near-none, near-found, all-none}
+use Rattle.ground.proofs.Runs.{rest-is}
+use Rattle.finder.proofs.Near.{near-none, near-found, all-none}
 use borrow.Author.Needs.{needs}
 use Rattle.finder.proofs.first_frame.Statement.{statement}
 use Rattle.finder.proofs.first_frame.Tie as tie

@@ -6,10 +6,10 @@ use Rattle.replay.proofs.play.Statement.{statement}
 use Rattle.replay.proofs.play.Tie as tie
 
 abbrev Inv-loop : tie.InvT-loop
-Inv-loop script world₀ number₀ at₀ world number at = number ≤ at
+Inv-loop lines world₀ number₀ at₀ world number at = number ≤ at
 
 abbrev μ-loop : tie.MeasureT-loop
-μ-loop script world₀ number₀ at₀ world number at = length script - at
+μ-loop lines world₀ number₀ at₀ world number at = length lines - at
 
 no-setup-requires : tie.Need-no-setup-requires Inv-loop μ-loop
 no-setup-requires c κs = search needs

@@ -1,11 +1,11 @@
--- `replay::words::addresses` ends: each word begins past the one before.
+-- `replay::order::addresses` ends: each word begins past the one before.
 use Prim.Native.Nat.{_+_, _-_, _≤_}
 use mathlib.Core.Path.{_≡_}
 use native.Mathlib.Omega.{arith}
 use lib.ListN.{length}
 use borrow.Author.Needs.{needs}
-use Rattle.replay.proofs.words.addresses.Statement.{statement}
-use Rattle.replay.proofs.words.addresses.Tie as tie
+use Rattle.replay.proofs.order.addresses.Statement.{statement}
+use Rattle.replay.proofs.order.addresses.Tie as tie
 
 abbrev Inv-loop : tie.InvT-loop
 Inv-loop line at out₀ n₀ ok₀ from₀ out n ok from = (n ≤ from) × (length out ≡ length out₀)
@@ -22,6 +22,9 @@ field-at-requires c κs = search needs
 byte-requires : tie.Need-byte-requires Inv-loop μ-loop
 byte-requires c κs = search needs
 
+slice-aggregate-lay : tie.Need-slice-aggregate-lay Inv-loop μ-loop
+slice-aggregate-lay c = search needs
+
 lay-requires : tie.Need-lay-requires Inv-loop μ-loop
 lay-requires c κs = search needs
 
@@ -29,10 +32,10 @@ add-n : tie.Need-add-n Inv-loop μ-loop
 add-n c = search needs
 
 loop-less : tie.Need-loop-less Inv-loop μ-loop
-loop-less c = omega (arith, c .before .before .before .before .before .before .field-at .ensures (c .before .before .before .before .before .before .before .loop-test .taken))
+loop-less c = omega (arith, c .before .before .before .before .before .before .before .field-at .ensures .1 (c .before .before .before .before .before .before .before .before .loop-test .taken))
 
 loop-again : tie.Need-loop-again Inv-loop μ-loop
-loop-again c = (omega (arith, c .before .before .before .before .before .before .field-at .ensures (c .before .before .before .before .before .before .before .loop-test .taken)), omega (arith, c .before .out .given, c .before .before .before .before .before .before .before .before .loop .inv .1))
+loop-again c = (omega (arith, c .before .before .before .before .before .before .before .field-at .ensures .1 (c .before .before .before .before .before .before .before .before .loop-test .taken)), omega (arith, c .before .out .given, c .before .before .before .before .before .before .before .before .before .loop .inv .1))
 
 same-length : tie.Need-same-length Inv-loop μ-loop
 same-length c = search needs
@@ -49,6 +52,7 @@ addresses-spec =
     loop-holds
     field-at-requires
     byte-requires
+    slice-aggregate-lay
     lay-requires
     add-n
     loop-less
