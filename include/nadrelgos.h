@@ -3,12 +3,13 @@
  *
  * The archive libpanel.a, which `rt staticlib panel` proves and writes, has nadrelgos_setup, nadrelgos_step and, for
  * tools, nadrelgos_list, _clear and _mark. A second one, libfinder.a (`rt staticlib finder`), has nadrelgos_find, for a
- * host that cuts the line's bytes at a silence; a firmware that has whole frames from elsewhere need not link it. They
- * are written in Rattle and proved to do what the definitions under crates/ say, for every input; docs/PROMISES.md
- * leads from each rule to its definition, its theorem and its code. This header is not proved: it restates those
- * definitions for whoever writes the firmware. The archives are for x86-64; the assertions at the end stop a build
- * whose records would be laid out otherwise. Of C's library libpanel.a needs memcpy and memset, and a call of it takes
- * up to some 1.5 kilobytes of stack, which `hosts/c/run stack` measures; libfinder.a needs nothing.
+ * host that cuts the line's bytes at a silence; a firmware that has whole frames from elsewhere need not link it. A
+ * third one, libdisplay.a (`rt staticlib display`), reads and writes texts and faults for a display. They are written
+ * in Rattle and proved to do what the definitions under crates/ say, for every input; docs/PROMISES.md leads from each
+ * rule to its definition, its theorem and its code. This header is not proved: it restates those definitions for
+ * whoever writes the firmware. The archives are for x86-64; the assertions at the end stop a build whose records would
+ * be laid out otherwise. Of C's library libpanel.a needs memcpy and memset, and a call of it takes up to some 1.5
+ * kilobytes of stack, which `hosts/c/run stack` measures; libfinder.a and libdisplay.a need nothing.
  *
  * WHO OWNS WHAT
  *   The host owns all memory: one coordinator record, forty node records, and the buffers. Nothing is allocated and
@@ -44,6 +45,7 @@
  *                              position joined, a board has joined there.
  *          NADRELGOS_DELIVER   it was a request for the host. Send the ACK that was written, then see to the request:
  *                              type received[7], payload received + 10, received[9] bytes long. The wait is over.
+ *                              A text or a fault for the display, types 4 and 5: see TEXTS AND FAULTS.
  *          NADRELGOS_WAIT      it was an ACK, to a forwarded request or to Get Node ID, and the response is still to
  *                              come. Nothing to send: start the timer again and go on listening.
  *          refused             1 to 9, 23 or 24: it was not taken. The wait goes on, and so does the timer.
@@ -84,6 +86,16 @@
  *   cannot be listed there, and it would be at stake in every discovery; he loses it when nothing is sent to him for a
  *   while (9.1.2). Turns, frames and quiets go on meanwhile.
  *
+ * TEXTS AND FAULTS
+ *   A board that wants something shown sends a Set Display, one that has a fault a Set Diagnostics (API Reference, 5.4
+ *   and 5.5). Give the payload that was delivered to nadrelgos_read_display or nadrelgos_read_diagnostics: where it is
+ *   not refused, its text is `length` bytes from payload + start on, all of them 0x20 to 0x7E, with no zero behind
+ *   them. Show nothing of a payload that is refused. Fault codes are the maker's own: major, the board does not work;
+ *   minor, it works and needs looking after; both 0 without a text, the fault is gone (5.5.1). A board that counts an
+ *   ending zero as text is refused 33, one that sends it without counting it 32. The writers make such payloads, for
+ *   whoever sends them. The response to either carries the payload NADRELGOS_REPLY, by which nadrelgos_is_reply knows
+ *   it; the panel answers what is delivered with the ACK, and no call of it makes a response.
+ *
  * READING THE RECORDS
  *   Between calls the host may read every field, as for its screen: the table is the list of who is there, with the
  *   index of each, which need not be counted. It must not write any. A step tests fit and answers 22 where what it
@@ -100,6 +112,7 @@
 #ifndef NADRELGOS_H
 #define NADRELGOS_H
 
+#include <stdbool.h>
 #include <stddef.h>
 #include <stdint.h>
 
@@ -214,12 +227,13 @@ enum nadrelgos_event_number {
 };
 
 /*
- * The numbers by which a call is refused: byte 0 of an answer, 0 where it was accepted. Each says when it is given,
- * then what the firmware does next. "Listen on" means: the wait, where one is on, is still on. Drop the bytes and go on
- * listening until a frame ends the wait; when the reply timer has run out, call nadrelgos_quiet. "The exchange" is the
- * one by which a board joins: stages 8 to 13. Where more than one holds, the first in this order is given: 22; then in
- * setup 21, 13; in a join 12 to 16; in a discover 14, 15, 16, 11; in a turn 18, 19, 11; in a frame 1 to 4, 24, 5, 23,
- * 6 to 9, 11; in a quiet 20.
+ * The numbers by which a call is refused: byte 0 of an answer, or the field `refusal` of what is said of a text or a
+ * fault; 0 where it was accepted. Each says when it is given, then what the firmware does next. "Listen on" means: the
+ * wait, where one is on, is still on. Drop the bytes and go on listening until a frame ends the wait; when the reply
+ * timer has run out, call nadrelgos_quiet. "The exchange" is the one by which a board joins: stages 8 to 13. Where more
+ * than one holds, the first in this order is given: 22; then in setup 21, 13; in a join 12 to 16; in a discover 14, 15,
+ * 16, 11; in a turn 18, 19, 11; in a frame 1 to 4, 24, 5, 23, 6 to 9, 11; in a quiet 20. Of a text or a fault 32, 33,
+ * and where it is written 11.
  */
 enum nadrelgos_refusal_number {
     NADRELGOS_ACCEPTED = 0,
@@ -256,7 +270,7 @@ enum nadrelgos_refusal_number {
     NADRELGOS_PAYLOAD_TOO_LONG = 10, /* a payload over 240 bytes to write. These functions never give it */
     NADRELGOS_NO_ROOM = 11,          /* a turn, a frame or a discover: out is shorter than the frame due. Call again
                                         with more room, and for a frame with the same bytes. NADRELGOS_ROOM always
-                                        suffices */
+                                        suffices. A text or a fault: out is shorter than its payload */
 
     /* a join, and where it says so a discover */
     NADRELGOS_BAD_TYPE = 12,      /* node type 0 or 165; also an event number that is none of the five. Give it up */
@@ -283,11 +297,19 @@ enum nadrelgos_refusal_number {
     /* a setup */
     NADRELGOS_BAD_POOL = 21, /* not 1 to 40 addresses from 1 to 254, each above the one before. Mend them */
 
-    /* any call */
-    NADRELGOS_STATE_UNFIT = 22 /* nodes_count is not 40; or, in a step, coordinator and table are not fit: no setup was
-                                  accepted, or something else has written to them. Call nadrelgos_setup; the boards
-                                  have to join again. Where the host has made or stored the table itself, look at its
-                                  indexes first: see RECORDS THAT THE HOST MAKES */
+    /* any call on the records */
+    NADRELGOS_STATE_UNFIT = 22, /* nodes_count is not 40; or, in a step, coordinator and table are not fit: no setup
+                                   was accepted, or something else has written to them. Call nadrelgos_setup; the boards
+                                   have to join again. Where the host has made or stored the table itself, look at its
+                                   indexes first: see RECORDS THAT THE HOST MAKES */
+
+    /* a text or a fault for the display. One that came in: show nothing of it. Its frame was good, and the board that
+       sent it is wrong */
+    NADRELGOS_BAD_TEXT_LENGTH = 32, /* the payload lacks its fixed bytes (2; of a fault 4); or its length byte is not
+                                       the count of the bytes behind it, or is above 30 (of a fault 15). To be written:
+                                       the text is longer than that. Cut it */
+    NADRELGOS_BAD_TEXT = 33         /* a byte of the text is outside 0x20 to 0x7E, as a letter of another alphabet is.
+                                       To be written: put another in its place */
 };
 
 /*
@@ -376,6 +398,55 @@ struct nadrelgos_finding {
  */
 struct nadrelgos_finding nadrelgos_find(uint8_t ours, const uint8_t *bytes, size_t count, size_t budget);
 
+/* The message types of a text and of a fault, and the longest text of each. */
+#define NADRELGOS_SET_DISPLAY 0x04
+#define NADRELGOS_SET_DIAGNOSTICS 0x05
+#define NADRELGOS_DISPLAY_MAX 30
+#define NADRELGOS_DIAGNOSTICS_MAX 15
+
+/* The longest payload of either: two fixed bytes and 30 of text. This room always suffices for the writers' out. */
+#define NADRELGOS_TEXT_ROOM 32
+
+/* The payload of the response to either, as an initializer of two bytes. */
+#define NADRELGOS_REPLY {0xAC, 0x06}
+
+/* What was read of a Set Display or a Set Diagnostics. All 0 but the first where it is refused. */
+struct nadrelgos_text {
+    uint8_t refusal; /* 0, or 32 or 33 by enum nadrelgos_refusal_number */
+    uint8_t kind;    /* the node type in the payload, any byte. Who sent it is the board that was awaited */
+    uint8_t major;   /* the fault codes of a Set Diagnostics, any bytes; 0 in a Set Display */
+    uint8_t minor;
+    size_t start;    /* where in the payload the text begins: 2, or 4 */
+    size_t length;   /* of the text: 0 to 30, or to 15 */
+};
+
+/* What was written. */
+struct nadrelgos_writing {
+    uint8_t refusal; /* 0, or 32, 33 or 11 by enum nadrelgos_refusal_number: then no byte of out was changed */
+    size_t written;  /* how many bytes from out on are the payload; those past it stay. 0 where it is refused */
+};
+
+/*
+ * Texts and faults for the display, in libdisplay.a.
+ *
+ *   payload, payload_count what came in. It is only read
+ *   kind, major, minor     any bytes: a node type, as of who wants it shown, and its fault codes
+ *   text, text_count       up to 30 bytes, of a fault 15, each 0x20 to 0x7E; with no zero behind them. For none, as to
+ *                          clear a fault, any byte's address and 0: not null. It does not overlap out
+ *   out, out_count         the payload is written at its front: 2 bytes and the text, of a fault 4 and the text
+ *
+ * The readers are refused 32, then 33; the writers 32, 33, then 11. What a writer wrote, its reader reads back.
+ */
+struct nadrelgos_text nadrelgos_read_display(const uint8_t *payload, size_t payload_count);
+struct nadrelgos_text nadrelgos_read_diagnostics(const uint8_t *payload, size_t payload_count);
+struct nadrelgos_writing nadrelgos_write_display(uint8_t kind, const uint8_t *text, size_t text_count, uint8_t *out,
+                                                 size_t out_count);
+struct nadrelgos_writing nadrelgos_write_diagnostics(uint8_t kind, uint8_t major, uint8_t minor, const uint8_t *text,
+                                                     size_t text_count, uint8_t *out, size_t out_count);
+
+/* Whether a payload is that of the response to either: NADRELGOS_REPLY. */
+bool nadrelgos_is_reply(const uint8_t *payload, size_t payload_count);
+
 /*
  * The parts of an answer, low byte first: the refusal's number, the answer, the board awaited, its exchange, the
  * position joined, the position dropped, and in two bytes the count of bytes written. Positions are 1 to k, 0 for none.
@@ -448,7 +519,7 @@ static inline uint64_t nadrelgos_turn(struct nadrelgos_coordinator *coordinator,
 /*
  * A frame came in: one whole frame, check bytes included. Where it is taken the board's misses are cleared, and the ACK
  * due to it, where one is, is written. In identify somebody else may sit at a listed board's address: there its misses
- * are cleared only where the MAC is its own. Refused 22, 1 to 5, 23, 6 to 9, 11.
+ * are cleared only where the MAC is its own. Refused 22, 1 to 4, 24, 5, 23, 6 to 9, 11.
  */
 static inline uint64_t nadrelgos_frame(struct nadrelgos_coordinator *coordinator, struct nadrelgos_node *nodes,
                                        const uint8_t *received, size_t received_count, uint8_t *out,
@@ -528,6 +599,18 @@ NADRELGOS_LAID_OUT(offsetof(struct nadrelgos_finding, number) == 0);
 NADRELGOS_LAID_OUT(offsetof(struct nadrelgos_finding, start) == 8);
 NADRELGOS_LAID_OUT(offsetof(struct nadrelgos_finding, length) == 16);
 NADRELGOS_LAID_OUT(offsetof(struct nadrelgos_finding, tried) == 24);
+
+NADRELGOS_LAID_OUT(sizeof(struct nadrelgos_text) == 24);
+NADRELGOS_LAID_OUT(offsetof(struct nadrelgos_text, refusal) == 0);
+NADRELGOS_LAID_OUT(offsetof(struct nadrelgos_text, kind) == 1);
+NADRELGOS_LAID_OUT(offsetof(struct nadrelgos_text, major) == 2);
+NADRELGOS_LAID_OUT(offsetof(struct nadrelgos_text, minor) == 3);
+NADRELGOS_LAID_OUT(offsetof(struct nadrelgos_text, start) == 8);
+NADRELGOS_LAID_OUT(offsetof(struct nadrelgos_text, length) == 16);
+
+NADRELGOS_LAID_OUT(sizeof(struct nadrelgos_writing) == 16);
+NADRELGOS_LAID_OUT(offsetof(struct nadrelgos_writing, refusal) == 0);
+NADRELGOS_LAID_OUT(offsetof(struct nadrelgos_writing, written) == 8);
 #undef NADRELGOS_LAID_OUT
 #endif
 

@@ -14,9 +14,9 @@ static void send_written(const struct panel *panel, const struct port *port, uin
     if (nadrelgos_written(answer) > 0) port->send(port->line, panel->out, nadrelgos_written(answer));
 }
 
-/* A request of a board for this host. Its type is frame[7], its payload begins at frame[10]. */
+/* A request of a board for this host. Its type is received[7], its payload begins at received[10]. */
 static void deliver(const struct panel *panel, uint64_t wait) {
-    tell_request(panel, wait, panel->received);
+    tell_request(panel, wait);
 }
 
 /* The wait is over by this answer: when to look for boards again. After a join at once: others may have held back. */

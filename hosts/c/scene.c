@@ -17,6 +17,12 @@ static const struct request requests[] = {
     {THERMOSTAT, 7, TYPE_CONTROL, 1, HEAT, 4, {HEAT, 0, 60, 0}},          /* no response comes */
     {THERMOSTAT, 12, TYPE_CONTROL, 1, COOL, 4, {COOL, 0, 24, 0}},         /* to the air conditioner */
     {THERMOSTAT, 18, TYPE_CONTROL, 1, HEAT, 4, {HEAT, 0, 80, 0}},         /* the furnace is back */
+    {AIR_CONDITIONER, 3, TYPE_DISPLAY, 0, 0, 7, "\x04\x05" "9\xB0" "C\r\n"}, /* no text */
+    {CROSSOVER, 2, TYPE_DISPLAY, 0, 0, 7, "\x09\x06" "CLOSE"},            /* another length */
+    {FURNACE, 4, TYPE_DIAGNOSTICS, 0, 0, 12, "\x02\x1F\x00\x08" "NO FLAME"},
+    {FURNACE, 6, TYPE_DIAGNOSTICS, 0, 0, 4, "\x02\x00\x00"},              /* the fault is gone */
+    {CROSSOVER, 3, TYPE_DIAGNOSTICS, 0, 0, 4, "\x09\x00\x07"},            /* a fault without words */
+    {AIR_CONDITIONER, 4, TYPE_DIAGNOSTICS, 0, 0, 3, "\x04\x01\x00"},      /* cut off */
 };
 
 /* The air conditioner leaves its first Set Address unanswered; the crossover gives no ID when it is asked for it. */

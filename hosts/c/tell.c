@@ -67,10 +67,8 @@ void tell_quiet(const struct panel *panel, uint64_t wait, struct nadrelgos_node 
     if (nadrelgos_dropped(answer)) tell_table(panel);
 }
 
-void tell_request(const struct panel *panel, uint64_t wait, const uint8_t *frame) {
+void tell_request(const struct panel *panel, uint64_t wait) {
     struct words words;
-    (void)panel;
-    (void)wait;
-    words_request(&words, frame);
+    words_request(&words, panel, wait);
     printf("                %s\n", words.text);
 }

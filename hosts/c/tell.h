@@ -18,7 +18,7 @@ void tell_frame(const struct panel *panel, uint64_t wait, size_t count, uint64_t
 void tell_quiet(const struct panel *panel, uint64_t wait, struct nadrelgos_node before, uint64_t answer);
 
 /* A request for the host, which ended this wait. */
-void tell_request(const struct panel *panel, uint64_t wait, const uint8_t *frame);
+void tell_request(const struct panel *panel, uint64_t wait);
 
 /* Who is listed. The loop does not ask for it. */
 void tell_table(const struct panel *panel);

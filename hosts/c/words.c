@@ -28,10 +28,10 @@ const char *words_refusal(unsigned refusal) {
         "accepted", "short", "over-long", "length mismatch", "bad checksum", "not for us", "not awaited",
         "unexpected type", "bad echo", "bad method", "payload too long", "no room", "bad type", "bad MAC", "busy",
         "held", "full", "retired", "awaiting reply", "nobody listed", "not waiting", "bad pool", "state unfit",
-        "not discovering",
-        "other subnet",
+        "not discovering", "other subnet", [NADRELGOS_BAD_TEXT_LENGTH] = "bad text length",
+        [NADRELGOS_BAD_TEXT] = "bad text",
     };
-    return refusal < COUNT(names) ? names[refusal] : "unknown";
+    return refusal < COUNT(names) && names[refusal] ? names[refusal] : "unknown";
 }
 
 const char *words_exchange(unsigned exchange) {
@@ -137,20 +137,37 @@ void words_quiet(struct words *words, const struct panel *panel, uint64_t wait, 
         say(words, "no answer from the %s: %u in a row", name, after->misses);
 }
 
-/* Bytes as text; what is no printable character is a dot. */
-static void put_text(char *text, const uint8_t *bytes, size_t count) {
-    for (size_t i = 0; i < count; i++) text[i] = bytes[i] >= ' ' && bytes[i] <= '~' ? (char)bytes[i] : '.';
-    text[count] = '\0';
+/* What a request for the host wants shown: a text, which is text alone where the reader does not refuse it. */
+static void say_display(struct words *words, const uint8_t *payload, size_t count) {
+    struct nadrelgos_text read = nadrelgos_read_display(payload, count);
+    const char *text = (const char *)payload + read.start;
+    if (read.refusal)
+        say(words, "for the host: nothing that can be displayed, %s", words_refusal(read.refusal));
+    else
+        say(words, "for the host: to be displayed, \"%.*s\"", (int)read.length, text);
 }
 
-void words_request(struct words *words, const uint8_t *frame) {
-    unsigned type = frame[AT_TYPE], count = frame[AT_LENGTH];
-    const uint8_t *payload = frame + AT_PAYLOAD;
-    char text[64];
-    if (type == TYPE_DISPLAY && count >= 2 && payload[1] == count - 2 && payload[1] < sizeof text) {
-        put_text(text, payload + 2, payload[1]);
-        say(words, "for the host: to be displayed, \"%s\"", text);
-    } else {
-        say(words, "for the host: request %u with %u bytes", type, count);
+/* Or a fault; codes 0 and no text take it back. Whose it is its sender tells, and not the type in the payload. */
+static void say_fault(struct words *words, const char *name, const uint8_t *payload, size_t count) {
+    struct nadrelgos_text read = nadrelgos_read_diagnostics(payload, count);
+    const char *text = (const char *)payload + read.start;
+    if (read.refusal)
+        say(words, "for the host: no fault that can be displayed, %s", words_refusal(read.refusal));
+    else if (!read.major && !read.minor && !read.length)
+        say(words, "for the host: the fault of the %s is gone", name);
+    else
+        say(words, "for the host: fault of the %s, major %u, minor %u, \"%.*s\"", name, read.major, read.minor,
+            (int)read.length, text);
+}
+
+void words_request(struct words *words, const struct panel *panel, uint64_t wait) {
+    unsigned type = panel->received[AT_TYPE], count = panel->received[AT_LENGTH];
+    const uint8_t *payload = panel->received + AT_PAYLOAD;
+    switch (type) {
+    case NADRELGOS_SET_DISPLAY: say_display(words, payload, count); break;
+    case NADRELGOS_SET_DIAGNOSTICS:
+        say_fault(words, board_name(panel, nadrelgos_board(wait)), payload, count);
+        break;
+    default: say(words, "for the host: request %u with %u bytes", type, count); break;
     }
 }

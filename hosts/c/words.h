@@ -29,7 +29,7 @@ void words_taken(struct words *words, const struct panel *panel, uint64_t wait, 
 void words_quiet(struct words *words, const struct panel *panel, uint64_t wait, struct nadrelgos_node before,
                  uint64_t answer);
 
-/* A request for the host. */
-void words_request(struct words *words, const uint8_t *frame);
+/* What was received in this wait, a request for the host: what it wants. */
+void words_request(struct words *words, const struct panel *panel, uint64_t wait);
 
 #endif

@@ -4,7 +4,7 @@
 
 #include <stdint.h>
 
-/* The refusals' numbers are below this one. */
+/* The numbers by which steps are refused are below this one. */
 enum { REFUSALS = 25 };
 
 struct counts {

@@ -194,13 +194,14 @@ void tell_quiet(const struct panel *panel, uint64_t wait, struct nadrelgos_node 
     show_board("dropped", "off the list", nadrelgos_dropped(answer), &before);
 }
 
-void tell_request(const struct panel *panel, uint64_t wait, const uint8_t *frame) {
+void tell_request(const struct panel *panel, uint64_t wait) {
+    const uint8_t *frame = panel->received;
     struct words words;
-    (void)panel;
-    words_request(&words, frame);
-    struct event event = begin("delivered", HAS_PLACE | HAS_REQUEST, words.text);
+    words_request(&words, panel, wait);
+    struct event event = begin("delivered", HAS_PLACE | HAS_REQUEST | HAS_TEXT, words.text);
     set_place(&event, nadrelgos_board(wait));
     event.message = frame[AT_TYPE];
+    event.text = words.text;
     event.frame = (struct bytes){frame + AT_PAYLOAD, frame[AT_LENGTH]};
     show(&event);
 }

@@ -13,10 +13,11 @@ mod words;
 pub use words::doubtful;
 
 use crate::coverage::{Coverage, POOL_SIZES};
+use crate::language::hex;
 use crate::line::{Kind, Line};
 use crate::panel::Panel;
 use crate::prng::Prng;
-use crate::script::{hex, Player};
+use crate::script::Player;
 use crate::state::{Exchange, Phase};
 use boards::Habit;
 use std::collections::BTreeMap;
@@ -279,7 +280,7 @@ mod tests {
         let mut whole = Coverage::default();
         for seed in 1..=20 {
             let (text, coverage) = script(seed, 16000);
-            assert!(text.len() < crate::script::SCRIPT_LIMIT);
+            assert!(text.len() < crate::language::SCRIPT_LIMIT);
             assert_eq!(coverage.bytes(), text.len() as u64);
             whole.add(&coverage);
         }

@@ -1,14 +1,7 @@
 //! The script language of the program `replay` (design 7).
 
+use crate::language::{self, byte, counted, last_pairs, number, refused, room, Lines};
 use crate::panel::{Action, Answer, Outcome, Panel, Settings};
-use crate::refusal::Refusal;
-use std::fmt::Write;
-
-/// Design 7: up to 1 MiB of script.
-pub const SCRIPT_LIMIT: usize = 1 << 20;
-/// Design 7: ROOM is 0 to 1,024, and up to 1,024 bytes of frame are taken.
-pub const ROOM_LIMIT: u64 = 1024;
-pub const FRAME_LIMIT: usize = 1024;
 
 /// One line that is well formed.
 enum Command {
@@ -25,84 +18,63 @@ enum Command {
 #[derive(Default)]
 pub struct Player {
     pub panel: Panel,
-    line: usize,
+    lines: Lines,
 }
 
 impl Player {
     /// The answer to the next line, or none for an empty line or a comment.
     pub fn play(&mut self, line: &[u8]) -> Option<String> {
-        self.line += 1;
-        if line.is_empty() || line[0] == b'#' {
-            return None;
-        }
-        match std::str::from_utf8(line).ok().and_then(parse) {
-            Some(command) => Some(self.run(command)),
-            None => Some(format!("bad line {}", self.line)),
-        }
-    }
-
-    fn run(&mut self, command: Command) -> String {
-        match command {
-            Command::Setup { subnet, internal, mac, session, pool } => {
-                let settings = Settings { subnet, internal, mac, session, pool: &pool };
-                match self.panel.setup(&settings) {
-                    Ok(k) => format!("ready {k}"),
-                    Err(refusal) => refused(refusal),
-                }
-            }
-            Command::Join { node_type, mac, session } => {
-                tell(self.panel.join(node_type, mac, session), &[])
-            }
-            Command::Discover { room } => {
-                let mut out = vec![0; room];
-                tell(self.panel.discover(&mut out), &out)
-            }
-            Command::Turn { room } => {
-                let mut out = vec![0; room];
-                tell(self.panel.turn(&mut out), &out)
-            }
-            Command::Frame { room, bytes } => {
-                let mut out = vec![0; room];
-                tell(self.panel.frame(&bytes, &mut out), &out)
-            }
-            Command::Quiet => tell(self.panel.quiet(), &[]),
-            Command::Table => self.table(),
-        }
-    }
-
-    /// `listed N`, then a line for each board.
-    fn table(&self) -> String {
-        let mut text = format!("listed {}", self.panel.listed().count());
-        for position in self.panel.listed() {
-            let record = self.panel.record(position);
-            let address = self.panel.address(position);
-            let (kind, mac, session) = (record.node_type, record.mac, record.session);
-            let (misses, owed, index) = (record.misses, u8::from(record.owed), record.index);
-            let row =
-                format!("{position} {address} {kind} {mac} {session} {misses} {owed} {index}");
-            text.push('\n');
-            text.push_str(&row);
-        }
-        text
+        let panel = &mut self.panel;
+        self.lines.answer(line, |words| parse(words).map(|command| run(panel, command)))
     }
 }
 
 /// Plays a whole script; each answer ends its line.
 pub fn play_all(script: &[u8]) -> String {
-    let script = &script[..script.len().min(SCRIPT_LIMIT)];
     let mut player = Player::default();
-    let mut text = String::new();
-    for line in script.split(|&byte| byte == b'\n') {
-        if let Some(answer) = player.play(line) {
-            text.push_str(&answer);
-            text.push('\n');
-        }
-    }
-    text
+    language::play_all(script, |line| player.play(line))
 }
 
-fn refused(refusal: Refusal) -> String {
-    format!("refuse {}", refusal.number())
+fn run(panel: &mut Panel, command: Command) -> String {
+    match command {
+        Command::Setup { subnet, internal, mac, session, pool } => {
+            let settings = Settings { subnet, internal, mac, session, pool: &pool };
+            match panel.setup(&settings) {
+                Ok(k) => format!("ready {k}"),
+                Err(refusal) => refused(refusal),
+            }
+        }
+        Command::Join { node_type, mac, session } => tell(panel.join(node_type, mac, session), &[]),
+        Command::Discover { room } => {
+            let mut out = vec![0; room];
+            tell(panel.discover(&mut out), &out)
+        }
+        Command::Turn { room } => {
+            let mut out = vec![0; room];
+            tell(panel.turn(&mut out), &out)
+        }
+        Command::Frame { room, bytes } => {
+            let mut out = vec![0; room];
+            tell(panel.frame(&bytes, &mut out), &out)
+        }
+        Command::Quiet => tell(panel.quiet(), &[]),
+        Command::Table => table(panel),
+    }
+}
+
+/// `listed N`, then a line for each board.
+fn table(panel: &Panel) -> String {
+    let mut text = format!("listed {}", panel.listed().count());
+    for position in panel.listed() {
+        let record = panel.record(position);
+        let address = panel.address(position);
+        let (kind, mac, session) = (record.node_type, record.mac, record.session);
+        let (misses, owed, index) = (record.misses, u8::from(record.owed), record.index);
+        let row = format!("{position} {address} {kind} {mac} {session} {misses} {owed} {index}");
+        text.push('\n');
+        text.push_str(&row);
+    }
+    text
 }
 
 /// The text of a step's answer.
@@ -129,28 +101,8 @@ fn tell_outcome(outcome: &Outcome, written: &[u8]) -> String {
     }
 }
 
-/// COUNT HEX, or the 0 alone.
-fn counted(written: &[u8]) -> String {
-    if written.is_empty() {
-        return "0".to_string();
-    }
-    format!("{} {}", written.len(), hex(written))
-}
-
-/// Upper case, two digits a byte.
-pub fn hex(bytes: &[u8]) -> String {
-    let mut text = String::with_capacity(2 * bytes.len());
-    for byte in bytes {
-        write!(text, "{byte:02X}").expect("writing to a string");
-    }
-    text
-}
-
-/// Words are separated by one space; two together leave an empty word, which
-/// no field takes.
-fn parse(line: &str) -> Option<Command> {
-    let words: Vec<&str> = line.split(' ').collect();
-    match words[..] {
+fn parse(words: &[&str]) -> Option<Command> {
+    match *words {
         ["setup", subnet, internal, mac, session, ref addresses @ ..] => Some(Command::Setup {
             subnet: byte(subnet)?,
             internal: byte(internal)?,
@@ -165,45 +117,13 @@ fn parse(line: &str) -> Option<Command> {
         }),
         ["discover", size] => Some(Command::Discover { room: room(size)? }),
         ["turn", size] => Some(Command::Turn { room: room(size)? }),
-        ["frame", size] => Some(Command::Frame { room: room(size)?, bytes: Vec::new() }),
-        ["frame", size, word] => Some(Command::Frame { room: room(size)?, bytes: pairs(word)? }),
+        ["frame", size, ref rest @ ..] => {
+            Some(Command::Frame { room: room(size)?, bytes: last_pairs(rest)? })
+        }
         ["quiet"] => Some(Command::Quiet),
         ["table"] => Some(Command::Table),
         _ => None,
     }
-}
-
-/// A decimal number of at most 64 bits: digits only, leading zeros allowed.
-fn number(word: &str) -> Option<u64> {
-    let digits = word.bytes().all(|byte| byte.is_ascii_digit());
-    if digits {
-        word.parse().ok()
-    } else {
-        None
-    }
-}
-
-fn byte(word: &str) -> Option<u8> {
-    number(word).and_then(|value| u8::try_from(value).ok())
-}
-
-fn room(word: &str) -> Option<usize> {
-    number(word).filter(|&value| value <= ROOM_LIMIT).map(|value| value as usize)
-}
-
-/// Pairs of hex digits of either case, 1 to 1,024 of them.
-pub fn pairs(word: &str) -> Option<Vec<u8>> {
-    let fits = !word.is_empty() && word.len() % 2 == 0 && word.len() <= 2 * FRAME_LIMIT;
-    if !fits {
-        return None;
-    }
-    word.as_bytes().chunks(2).map(pair).collect()
-}
-
-fn pair(digits: &[u8]) -> Option<u8> {
-    let high = char::from(digits[0]).to_digit(16)?;
-    let low = char::from(digits[1]).to_digit(16)?;
-    Some((16 * high + low) as u8)
 }
 
 #[cfg(test)]

@@ -3,8 +3,9 @@
 
 use reference::checksum;
 use reference::generator;
+use reference::language;
 use reference::routing;
-use reference::script::{self, Player};
+use reference::script::Player;
 
 /// One listed position as seen from outside.
 #[derive(Clone, Copy, Default)]
@@ -63,7 +64,7 @@ impl Watch {
                 self.joined(at, word(line, 1).parse().unwrap(), word(line, 2).parse().unwrap());
             }
             ("turn", ["wait", at, kind, _, sent]) => {
-                self.sent(at.parse().unwrap(), kind, &script::pairs(sent).unwrap());
+                self.sent(at.parse().unwrap(), kind, &language::pairs(sent).unwrap());
             }
             ("frame", _) => self.accepted(line),
             ("quiet", ["rest", "dropped", at]) => self.quiet(at.parse().unwrap()),
@@ -85,7 +86,7 @@ impl Watch {
     /// C-14: 24 is for a good frame whose subnet is neither ours nor 0, and for
     /// no other. It is refused, so the board is not heard by it.
     fn keeps_to_its_subnet(&mut self, line: &str, answer: &str) {
-        let bytes = script::pairs(word(line, 2)).unwrap_or_default();
+        let bytes = language::pairs(word(line, 2)).unwrap_or_default();
         let length = bytes.get(9).map_or(0, |&n| usize::from(n));
         let whole = length <= 240 && bytes.len() == 12 + length;
         let other = whole && checksum::is_good(&bytes) && ![self.subnet, 0].contains(&bytes[2]);
@@ -134,7 +135,7 @@ impl Watch {
             "forward" => self.index(self.requester),
             _ => self.index(self.awaited),
         };
-        assert_eq!(usize::from(script::pairs(sent).unwrap()[5]), expected, "{answer:?}");
+        assert_eq!(usize::from(language::pairs(sent).unwrap()[5]), expected, "{answer:?}");
     }
 
     /// While someone is listed, one at most is started between two offers.
@@ -225,7 +226,7 @@ impl Watch {
     fn accepted(&mut self, line: &str) {
         self.heard = true;
         self.boards[self.awaited].misses = 0;
-        let bytes = script::pairs(word(line, 2)).unwrap();
+        let bytes = language::pairs(word(line, 2)).unwrap();
         if (1..=127).contains(&bytes[7]) {
             let to = routing::resolve(&self.types(), bytes[3], bytes[4]);
             self.asked = to.filter(|&to| to != self.awaited);
@@ -261,7 +262,7 @@ fn word(line: &str, place: usize) -> &str {
 
 /// The payload of the frame in a line.
 fn payload(line: &str) -> Vec<u8> {
-    let bytes = script::pairs(word(line, 2)).unwrap();
+    let bytes = language::pairs(word(line, 2)).unwrap();
     bytes[10..bytes.len() - 2].to_vec()
 }
 

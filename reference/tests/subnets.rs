@@ -8,9 +8,10 @@ use reference::checksum;
 use reference::draft::Draft;
 use reference::frame;
 use reference::generator;
+use reference::language;
 use reference::panel::{Action, Answer, Panel};
 use reference::refusal::Refusal;
-use reference::script::{self, Player};
+use reference::script::Player;
 use reference::state::{Exchange, Phase};
 
 const POOL: [u8; 4] = [2, 5, 9, 77];
@@ -396,12 +397,12 @@ fn quiet_after_24_is_quiet() {
 /// The line with another subnet in its frame, and check bytes that fit.
 fn of_another_subnet(line: &str, ours: u8) -> Option<String> {
     let (start, digits) = line.rsplit_once(' ')?;
-    let mut bytes = script::pairs(digits).filter(|bytes| bytes.len() >= 12)?;
+    let mut bytes = language::pairs(digits).filter(|bytes| bytes.len() >= 12)?;
     bytes[2] = others(ours).next()?;
     let body = bytes.len() - 2;
     let tail = checksum::check_bytes(&bytes[..body]);
     bytes[body..].copy_from_slice(&tail);
-    Some(format!("{start} {}", script::hex(&bytes)))
+    Some(format!("{start} {}", language::hex(&bytes)))
 }
 
 /// The other system says everything first that our boards say, and no answer

@@ -1,13 +1,14 @@
 /*
  * Odd inputs through include/nadrelgos.h: records that are not fit, any frames in the exchange by which a board joins
- * (frames.c), every wrong index (indexes.c), counts of records other than forty, event numbers that are none, a setup
- * over whatever stood there, changes and positions that are none. What each call answers and leaves is known: records
- * that were lent are held to it field by field, and all else byte by byte. The calls are the same each time. A line is
- * printed for each check, and the exit status is 1 where one fails.
+ * (frames.c), every wrong index (indexes.c), texts and faults of every form (texts.c), counts of records other than
+ * forty, event numbers that are none, a setup over whatever stood there, changes and positions that are none. What each
+ * call answers and leaves is known: records that were lent are held to it field by field, and all else byte by byte.
+ * The calls are the same each time. A line is printed for each check, and the exit status is 1 where one fails.
  */
 #include "checks.h"
 #include "frames.h"
 #include "indexes.h"
+#include "texts.h"
 
 #include <string.h>
 
@@ -396,5 +397,11 @@ int main(void) {
     keeps_indexes();
     sends_indexes();
     counts_indexes();
+    reads_every_length();
+    reads_every_byte();
+    reads_any_bytes();
+    writes_every_length();
+    writes_into_every_room();
+    knows_the_reply();
     return some_failed();
 }

@@ -73,6 +73,18 @@ def heat_is_carried(panel, boards, homes):
     boards.wait("the answer at the thermostat", lambda line: line == "thermostat: answer 64 00 46 00")
 
 
+def texts_are_shown(panel, boards, homes):
+    """A text, a fault and its end reach the panel, which says of each what there is to show."""
+    home, place = homes["furnace"], panel.place()
+    for order, message, text in ("display furnace CHANGE FILTER", 4, 'to be displayed, "CHANGE FILTER"'), \
+                                ("fault furnace 31 0 NO  FLAME", 5, 'fault of the furnace, major 31, minor 0, "NO  FLAME"'), \
+                                ("fault furnace 0 0", 5, "the fault of the furnace is gone"):
+        boards.order(order)
+        place, event = panel.event("delivered", place, position=home["position"], message=message)
+        check(event["text"] == "for the host: " + text, f"{order} is shown as {event['text']}")
+        place += 1
+
+
 def single_misses_drop_nobody(panel, boards, homes):
     """Forty misses of the furnace, one or two in a row, with an answer after each."""
     position, place = homes["furnace"]["position"], panel.place()
@@ -317,6 +329,7 @@ def main():
     panel = Panel(out, link, FASTER, "--capture", capture, *SILENCE)
     homes = all_are_found(panel, boards)
     heat_is_carried(panel, boards, homes)
+    texts_are_shown(panel, boards, homes)
     single_misses_drop_nobody(panel, boards, homes)
     another_system_is_not_heard(panel, boards, homes)
     unplugged_is_dropped(panel, boards, homes)

@@ -41,6 +41,21 @@ stopped (rule ∷ rules) more f v u h = go (stopped rules more f v u) (rule .0) 
     go rest true e = refl
     go rest false e = rest (λ p. h (e, p))
 
+-- every rule says this refusal
+abbrev pub Says : List (Bool × Refusal) → Refusal → Type 0
+Says [] q = Unit {0}
+Says (rule ∷ rules) q = (rule .1 ≡ q) × Says rules q
+
+-- where all say the same and some rule holds, it is said
+pub said {ℓ} : {A : Type ℓ} (rules : List (Bool × Refusal)) (q : Refusal) (f : Refusal → A) (v : A) → Says rules q → (Passed rules → ⊥) → ruled rules f v ≡ f q
+unfolding choose
+said [] q f v s h = absurd (h tt)
+said (rule ∷ rules) q f v s h = go (said rules q f v (s .1)) (rule .0) refl
+  where
+    go : ((Passed rules → ⊥) → ruled rules f v ≡ f q) → (b : Bool) → rule .0 ≡ b → choose b (f (rule .1)) (ruled rules f v) ≡ f q
+    go rest true e = ap f (s .0)
+    go rest false e = rest (λ p. h (e, p))
+
 -- an answer of which something holds that holds of no refusal passed every rule
 pub unrefused {ℓ κ} : {A : Type ℓ} (Accepted : A → Type κ) (rules : List (Bool × Refusal)) (f : Refusal → A) (v : A) → ((q : Refusal) → Accepted (f q) → ⊥) → Accepted (ruled rules f v) → Passed rules
 unfolding choose

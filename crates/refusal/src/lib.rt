@@ -1,4 +1,4 @@
-// The numbers by which the panel refuses. A refusal is a case; the rule book's number is `number`. 17 is retired.
+// The numbers by which the panel refuses. A refusal is a case; the rule book's number is `number`. 17 is retired, and 25 to 31 are none's yet.
 ghost use mathlib.Core.Path.{_≡_};
 ghost use Rattle.refusal.specs.Refusal.{numberOf};
 
@@ -23,7 +23,7 @@ pub enum Refusal {
     BadMethod,
     // 10: writer given over 240
     PayloadTooLong,
-    // 11: output shorter than the frame due
+    // 11: output shorter than what is due
     NoRoom,
     // 12: join with type 0 or 165
     BadType,
@@ -49,6 +49,10 @@ pub enum Refusal {
     NotDiscovering,
     // 24: a good frame whose subnet is neither ours nor 0
     OtherSubnet,
+    // 32: a payload without its fixed bytes, or a text of another length than its length byte says, or longer than its message may have
+    BadTextLength,
+    // 33: a text byte outside 0x20 to 0x7E
+    BadText,
 }
 
 // The rule book's number of a refusal.
@@ -79,5 +83,7 @@ pub fn number(refusal: Refusal) -> u8
         Refusal::StateUnfit => 22,
         Refusal::NotDiscovering => 23,
         Refusal::OtherSubnet => 24,
+        Refusal::BadTextLength => 32,
+        Refusal::BadText => 33,
     }
 }

@@ -9,7 +9,7 @@ enum { ORDER_WORDS = 5 };
 struct order {
     const char *words[ORDER_WORDS]; /* the first of them */
     unsigned count;                 /* of all */
-    const char *text;               /* the line from its third word on, as it was written */
+    const char *from[ORDER_WORDS];  /* the line from each of them on, as it was written */
 };
 
 void order_plug(struct house *house, const struct order *order);
@@ -21,6 +21,7 @@ void order_elsewhere(struct house *house, const struct order *order);
 void order_noise(struct house *house, const struct order *order);
 void order_heat(struct house *house, const struct order *order);
 void order_display(struct house *house, const struct order *order);
+void order_fault(struct house *house, const struct order *order);
 void order_boards(struct house *house, const struct order *order);
 
 /* The board of that name. NULL where there is none, which is then answered. */

@@ -29,6 +29,8 @@ static const struct {
      "random bytes now, or at its next answer; inside: COUNT of its bytes changed"},
     {"heat", 3, 3, order_heat, "heat NAME PERCENT", "it sends a heat demand at its next offer"},
     {"display", 3, UINT32_MAX, order_display, "display NAME TEXT", "it sends a display message at its next offer"},
+    {"fault", 4, UINT32_MAX, order_fault, "fault NAME MAJOR MINOR [TEXT]",
+     "it reports a fault at its next offer; with 0 0 and no text, that it is gone"},
     {"jumper", 3, 3, order_jumper, "jumper NAME TYPE", "its type is another, and it starts anew"},
     {"boards", 1, 1, order_boards, "boards", "a line for each board"},
     {"help", 1, 1, order_help, "help", "these lines"},
@@ -71,8 +73,10 @@ static void split(struct order *order, char *line, const char *text) {
     char *rest = line;
     memset(order, 0, sizeof *order);
     for (char *word = strtok_r(line, " ", &rest); word; word = strtok_r(NULL, " ", &rest)) {
-        if (order->count < ORDER_WORDS) order->words[order->count] = word;
-        if (order->count == 2) order->text = text + (word - line);
+        if (order->count < ORDER_WORDS) {
+            order->words[order->count] = word;
+            order->from[order->count] = text + (word - line);
+        }
         order->count++;
     }
 }

@@ -1,9 +1,10 @@
-//! Compares replay and framelist with this implementation:
+//! Compares replay, framelist and payloads with this implementation:
 //!
-//!     compare REPLAY FRAMELIST FOLDER gate SCRIPTS CAPTURES
-//!     compare REPLAY FRAMELIST FOLDER soak MINUTES FIRST_SEED terminal|lines
+//!     compare REPLAY FRAMELIST PAYLOADS FOLDER gate SCRIPTS CAPTURES PAYLOADS
+//!     compare REPLAY FRAMELIST PAYLOADS FOLDER soak MINUTES FIRST_SEED terminal|lines
 //!
-//! REPLAY and FRAMELIST are the commands that run them, a word to a line.
+//! REPLAY, FRAMELIST and the first PAYLOADS are the commands that run them, a word
+//! to a line; the second is how many scripts payloads plays.
 //! 1 if something differs or the gate did not reach all it has to.
 
 use reference::compare::mismatch::Mismatch;
@@ -18,8 +19,8 @@ use std::path::Path;
 use std::process::ExitCode;
 use std::time::{Duration, Instant};
 
-const USAGE: &str = "usage: compare REPLAY FRAMELIST FOLDER gate SCRIPTS CAPTURES \
-                     | soak MINUTES FIRST_SEED terminal|lines";
+const USAGE: &str = "usage: compare REPLAY FRAMELIST PAYLOADS FOLDER \
+                     gate SCRIPTS CAPTURES PAYLOADS | soak MINUTES FIRST_SEED terminal|lines";
 /// A mismatch is shrunk for at most this long.
 const SHRINKING: Duration = Duration::from_secs(60);
 
@@ -42,14 +43,18 @@ fn main() -> ExitCode {
 
 /// None if the words are not as the usage says.
 fn run(words: &[&str]) -> Option<io::Result<bool>> {
-    let (replay, framelist, folder, rest) = match words {
-        [replay, framelist, folder, rest @ ..] => (replay, framelist, Path::new(folder), rest),
+    let (programs, folder, rest) = match words {
+        [replay, framelist, payloads, folder, rest @ ..] => {
+            ([replay, framelist, payloads], Path::new(folder), rest)
+        }
         _ => return None,
     };
-    let ours = Ours { replay: Program::new(replay), framelist: Program::new(framelist) };
+    let [replay, framelist, payloads] = programs.map(|command| Program::new(command));
+    let ours = Ours { replay, framelist, payloads };
     match *rest {
-        ["gate", scripts, captures] => {
-            Some(gate(&ours, folder, scripts.parse().ok()?, captures.parse().ok()?))
+        ["gate", scripts, captures, payloads] => {
+            let number = |word: &str| word.parse().ok();
+            Some(gate(&ours, folder, [number(scripts)?, number(captures)?, number(payloads)?]))
         }
         ["soak", minutes, first, style] => {
             Some(soak(&ours, folder, duration(minutes)?, first.parse().ok()?, style_of(style)?))
@@ -72,8 +77,10 @@ fn style_of(word: &str) -> Option<Style> {
     }
 }
 
-fn gate(ours: &Ours, folder: &Path, scripts: u64, captures: u64) -> io::Result<bool> {
-    let tasks = task::of_gate(scripts, captures);
+/// So many scripts, captures and payload scripts.
+fn gate(ours: &Ours, folder: &Path, numbers: [u64; 3]) -> io::Result<bool> {
+    let [scripts, captures, payloads] = numbers;
+    let tasks = task::of_gate(scripts, captures, payloads);
     let outcome = pool::run(tasks, ours, pool::processors(), &mut |_| ())?;
     match outcome.mismatch {
         Some(mismatch) => tell(&mismatch, ours, folder),
@@ -83,7 +90,7 @@ fn gate(ours: &Ours, folder: &Path, scripts: u64, captures: u64) -> io::Result<b
 
 /// Says what was compared; false if something was not reached by it.
 fn reached(totals: &Totals, scripts: u64, folder: &Path) -> io::Result<bool> {
-    let (played, listed) = (&totals.scripts, &totals.captures);
+    let (played, listed, texts) = (&totals.scripts, &totals.captures, &totals.payloads);
     println!(
         "compare: {scripts} scripts, {} lines, {} steps: answered alike",
         played.lines(),
@@ -95,9 +102,15 @@ fn reached(totals: &Totals, scripts: u64, folder: &Path) -> io::Result<bool> {
         listed.bytes(),
         listed.frames()
     );
+    println!(
+        "compare: {} payload scripts, {} lines: answered alike",
+        texts.scripts(),
+        texts.lines()
+    );
     let path = folder.join("coverage.txt");
-    fs::write(&path, format!("{}\n{}", played.report(), listed.report()))?;
-    let missing = [played.missing(), listed.missing()].concat();
+    let reports = [played.report(), listed.report(), texts.report()];
+    fs::write(&path, reports.join("\n"))?;
+    let missing = [played.missing(), listed.missing(), texts.missing()].concat();
     for name in &missing {
         println!("compare: not reached: {name}");
     }

@@ -3,14 +3,15 @@
 //!     generate scripts SEED COUNT     a script of COUNT lines
 //!     generate coverage SEED COUNT    what that script reaches; 1 if short
 //!     generate captures SEED INDEX    one capture of line bytes
+//!     generate payloads SEED COUNT    a payload script of COUNT lines
 //!     generate doubtful               lines that can be read in two ways
 
-use reference::{captures, generator, script};
+use reference::{captures, generator, language, payload_scripts};
 use std::io::{self, BufWriter, Write};
 use std::process::ExitCode;
 
 const USAGE: &str = "usage: generate scripts SEED COUNT | coverage SEED COUNT \
-                     | captures SEED INDEX | doubtful";
+                     | captures SEED INDEX | payloads SEED COUNT | doubtful";
 
 fn main() -> ExitCode {
     let words: Vec<String> = std::env::args().skip(1).collect();
@@ -34,6 +35,9 @@ fn run(words: &[&str]) -> io::Result<Option<ExitCode>> {
         (["scripts", ..], Some((seed, count))) => scripts(seed, count),
         (["coverage", ..], Some((seed, count))) => coverage(seed, count),
         (["captures", ..], Some((seed, index))) => write(&captures::capture(seed, index)),
+        (["payloads", ..], Some((seed, count))) => {
+            write(&payload_scripts::script(seed, count as usize).0)
+        }
         (["doubtful"], _) => write(generator::doubtful().as_bytes()),
         _ => Ok(None),
     }
@@ -61,7 +65,7 @@ fn scripts(seed: u64, count: u64) -> io::Result<Option<ExitCode>> {
     });
     result?;
     out.flush()?;
-    if coverage.bytes() > script::SCRIPT_LIMIT as u64 {
+    if coverage.bytes() > language::SCRIPT_LIMIT as u64 {
         eprintln!("generate: this script is longer than 1 MiB, so a replay reads a part of it");
     }
     Ok(Some(ExitCode::SUCCESS))

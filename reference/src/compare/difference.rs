@@ -1,7 +1,6 @@
 //! The first answer in which two sides differ.
 
 use super::sides::{Reference, Side, Sort};
-use crate::script::Player;
 use std::io;
 
 #[derive(Clone, Debug, PartialEq, Eq)]
@@ -35,12 +34,12 @@ impl Difference {
     }
 
     /// The line of the script, from 1, that this answers.
-    pub fn script_line(&self, script: &[u8]) -> usize {
-        let mut player = Player::default();
+    pub fn script_line(&self, sort: Sort, script: &[u8]) -> usize {
+        let mut play = sort.player().unwrap_or_else(|| Box::new(|_| None));
         let (mut line, mut answers) = (0, 0);
         for text in script.split(|&byte| byte == b'\n') {
             line += 1;
-            answers += player.play(text).map_or(0, |answer| answer.lines().count());
+            answers += play(text).map_or(0, |answer| answer.lines().count());
             if answers >= self.answer {
                 break;
             }
@@ -78,7 +77,11 @@ mod tests {
     #[test]
     fn the_line_answered_is_found_past_tables_and_comments() {
         let script = b"setup 3 1 5 6 16\n# a comment\njoin 2 7 8\ntable\nquiet\n";
-        let line = |answer| Difference { answer, ours: None, reference: None }.script_line(script);
+        let answered = |answer| Difference { answer, ours: None, reference: None };
+        let line = |answer| answered(answer).script_line(Sort::Script, script);
         assert_eq!([line(1), line(2), line(3), line(4), line(5)], [1, 3, 4, 4, 5]);
+        let script = b"read-display\n\n# a comment\nnonsense\n";
+        let line = |answer| answered(answer).script_line(Sort::Payloads, script);
+        assert_eq!([line(1), line(2)], [1, 4]);
     }
 }

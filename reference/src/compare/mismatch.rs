@@ -3,16 +3,20 @@
 use super::difference::Difference;
 use super::shrink::{self, Shrunk};
 use super::sides::{Side, Sort};
-use crate::script::hex;
+use crate::language::{hex, SCRIPT_LIMIT};
 use std::fs;
 use std::io;
 use std::path::Path;
 use std::time::{Duration, Instant};
 
-/// At most so many lines are printed; the file has them all.
+/// At most so many lines are printed, and of a very long one so many bytes; the
+/// file has them all.
 const SHOWN: usize = 60;
-/// Ends any wait.
+const SHOWN_BYTES: usize = 60;
+const VERY_LONG: usize = 3000;
+/// Of `replay` what ends any wait, of `payloads` what needs nothing.
 const PLAIN_LINE: &[u8] = b"quiet";
+const PLAIN_PAYLOAD: &[u8] = b"read-display";
 
 /// An input that the two sides answer differently.
 #[derive(Clone, Debug)]
@@ -30,10 +34,14 @@ impl Mismatch {
         let deadline = Instant::now() + time;
         let mut text = format!("{}: {}:\n", self.name, self.place());
         text.push_str(&self.difference.text());
-        let (path, left) = match self.sort {
-            Sort::Script => (folder.join("mismatch.txt"), self.shrink_lines(ours, deadline)),
-            Sort::Capture => (folder.join("mismatch.bin"), self.shrink_bytes(ours, deadline)),
+        let (file, left) = match self.sort {
+            Sort::Script => ("mismatch.txt", self.shrink_lines(ours, PLAIN_LINE, deadline)),
+            Sort::Capture => ("mismatch.bin", self.shrink_bytes(ours, deadline)),
+            Sort::Payloads => {
+                ("mismatch-payloads.txt", self.shrink_lines(ours, PLAIN_PAYLOAD, deadline))
+            }
         };
+        let path = folder.join(file);
         fs::write(&path, &left.input)?;
         text.push_str(&format!("{} in {}:\n{}", left.how, path.display(), left.shown));
         match Difference::over(ours, self.sort, &left.input)? {
@@ -49,24 +57,28 @@ impl Mismatch {
     fn place(&self) -> String {
         let answer = self.difference.answer;
         match self.sort {
-            Sort::Script => {
-                let line = self.difference.script_line(&self.input);
+            Sort::Script | Sort::Payloads => {
+                let line = self.difference.script_line(self.sort, &self.input);
                 format!("answer {answer}, to line {line}, differs")
             }
             Sort::Capture => format!("line {answer} of the list differs"),
         }
     }
 
-    fn shrink_lines(&self, ours: &dyn Side, deadline: Instant) -> Left {
+    fn shrink_lines(&self, ours: &dyn Side, plain: &'static [u8], deadline: Instant) -> Left {
         let whole = self.input.strip_suffix(b"\n").unwrap_or(&self.input);
+        // a last line that is not ended stays so: it may be what differs
+        let end = &self.input[whole.len()..];
         let lines: Vec<&[u8]> = whole.split(|&byte| byte == b'\n').collect();
-        let mut fails = |lines: &[&[u8]]| self.differs(ours, &joined(lines));
+        let mut fails = |lines: &[&[u8]]| self.differs(ours, &joined(lines, end));
         // what follows the differing answer cannot matter, unless answers were lost
-        let cut = lines[..self.difference.script_line(whole)].to_vec();
+        let cut = lines[..self.difference.script_line(self.sort, whole)].to_vec();
         let start = if fails(&cut) { cut } else { lines.clone() };
-        let shrunk = shrink::shrink(start, PLAIN_LINE, deadline, &mut fails);
+        let filling = vec![b'#'; whole.len()];
+        let folded = folded(&start, &filling).filter(|lines| fails(lines));
+        let shrunk = shrink::shrink(folded.unwrap_or(start), plain, deadline, &mut fails);
         let how = how(&shrunk, lines.len(), "lines");
-        Left { how, input: joined(&shrunk.items), shown: shown(&shrunk.items) }
+        Left { how, input: joined(&shrunk.items, end), shown: shown(&shrunk.items) }
     }
 
     fn shrink_bytes(&self, ours: &dyn Side, deadline: Instant) -> Left {
@@ -88,20 +100,48 @@ struct Left {
     shown: String,
 }
 
-fn joined(lines: &[&[u8]]) -> Vec<u8> {
-    [&lines.join(&b'\n')[..], b"\n"].concat()
+fn joined(lines: &[&[u8]], end: &[u8]) -> Vec<u8> {
+    [&lines.join(&b'\n')[..], end].concat()
+}
+
+/// All lines but the last as one comment of the same size, where they reach the
+/// limit of a script: what differs for its place there differs in it still, while
+/// to take any line out would move it.
+fn folded<'a>(lines: &[&'a [u8]], filling: &'a [u8]) -> Option<Vec<&'a [u8]>> {
+    let (last, before) = lines.split_last()?;
+    let size: usize = before.iter().map(|line| line.len() + 1).sum();
+    let reaches = !before.is_empty() && size + last.len() + 1 >= SCRIPT_LIMIT;
+    reaches.then(|| vec![&filling[..size - 1], last])
 }
 
 /// The lines set in; of many only the first and the last.
 fn shown(lines: &[&[u8]]) -> String {
-    let text = |lines: &[&[u8]]| -> String {
-        lines.iter().map(|line| format!("  {}\n", String::from_utf8_lossy(line))).collect()
-    };
+    let text = |lines: &[&[u8]]| -> String { lines.iter().map(|line| shown_line(line)).collect() };
     if lines.len() <= SHOWN {
         return text(lines);
     }
     let (first, last) = (&lines[..SHOWN / 2], &lines[lines.len() - SHOWN / 2..]);
     format!("{}  ({} lines more)\n{}", text(first), lines.len() - SHOWN, text(last))
+}
+
+fn shown_line(line: &[u8]) -> String {
+    if line.len() <= VERY_LONG {
+        return format!("  {}\n", visible(line));
+    }
+    let start = visible(&line[..SHOWN_BYTES]);
+    format!("  {start} ({} bytes more)\n", line.len() - SHOWN_BYTES)
+}
+
+/// Control characters as they stand in a string, so that they are seen.
+fn visible(line: &[u8]) -> String {
+    let mut text = String::new();
+    for character in String::from_utf8_lossy(line).chars() {
+        match character.is_control() {
+            true => text.extend(character.escape_default()),
+            false => text.push(character),
+        }
+    }
+    text
 }
 
 fn how<T>(shrunk: &Shrunk<T>, before: usize, what: &str) -> String {
@@ -116,26 +156,40 @@ mod tests {
     use super::super::task::Task;
     use super::*;
 
-    /// Says that a board stays where it is dropped, and lists no frame of
-    /// message type 9.
+    /// Says that a board stays where it is dropped, lists no frame of message
+    /// type 9, tells a bad length of a bad text, and plays no line that is not
+    /// ended.
     struct Slips;
 
     impl Side for Slips {
         fn answer(&self, sort: Sort, input: &[u8]) -> io::Result<String> {
-            let answer = Reference.answer(sort, input)?;
             let kept = |line: &&str| line.split(' ').nth(3) != Some("9");
+            let played = match sort {
+                Sort::Payloads => {
+                    input.iter().rposition(|&byte| byte == b'\n').map_or(0, |at| at + 1)
+                }
+                _ => input.len(),
+            };
+            let answer = Reference.answer(sort, &input[..played])?;
             Ok(match sort {
                 Sort::Script => answer.replace("rest dropped", "rest"),
                 Sort::Capture => answer.lines().filter(kept).map(|l| format!("{l}\n")).collect(),
+                Sort::Payloads if played < input.len() => answer,
+                Sort::Payloads => answer.replace("refuse 33", "refuse 32"),
             })
         }
     }
 
     fn told(task: &Task, file: &str) -> (String, Vec<u8>) {
-        let folder = std::env::temp_dir().join(format!("told-{}-{file}", std::process::id()));
+        told_by(&Slips, task, file)
+    }
+
+    fn told_by(side: &dyn Side, task: &Task, file: &str) -> (String, Vec<u8>) {
+        let name = format!("told-{}-{}-{file}", std::process::id(), task.seed);
+        let folder = std::env::temp_dir().join(name);
         fs::create_dir_all(&folder).unwrap();
-        let mismatch = task.run(&Slips).unwrap().1.unwrap();
-        let text = mismatch.tell(&Slips, &folder, Duration::from_secs(60)).unwrap();
+        let mismatch = task.run(side).unwrap().1.unwrap();
+        let text = mismatch.tell(side, &folder, Duration::from_secs(60)).unwrap();
         let left = fs::read(folder.join(file)).unwrap();
         fs::remove_dir_all(&folder).unwrap();
         (text, left)
@@ -145,7 +199,7 @@ mod tests {
     /// so the seed is one whose first drop is of a board that the host brought.
     #[test]
     fn a_drop_is_shrunk_to_a_join_and_three_misses() {
-        let (text, left) = told(&Task { seed: 5, lines: 3000, captures: 0..0 }, "mismatch.txt");
+        let (text, left) = told(&Task { seed: 5, lines: 3000, ..Task::default() }, "mismatch.txt");
         let left = String::from_utf8(left).unwrap();
         let steps: Vec<&str> = left.lines().map(|line| line.split(' ').next().unwrap()).collect();
         let expected = ["setup", "join", "turn", "quiet", "turn", "quiet", "turn", "quiet"];
@@ -157,16 +211,59 @@ mod tests {
     }
 
     #[test]
+    fn a_payload_is_shrunk_to_its_line() {
+        let task = Task { seed: 5, payload_lines: 3000, ..Task::default() };
+        let (text, left) = told(&task, "mismatch-payloads.txt");
+        assert!(text.starts_with("the payload script of seed 5: answer "), "{text}");
+        assert!(text.contains("shrunk from 3000 lines to 1 by "), "{text}");
+        let end = "its answer 1 differs:\n  ours       refuse 32\n  reference  refuse 33\n";
+        assert!(text.ends_with(end), "{text}");
+        assert!(left.starts_with(b"read-") || left.starts_with(b"write-"));
+        assert_eq!(left.iter().position(|&byte| byte == b'\n'), Some(left.len() - 1));
+    }
+
+    /// The last line of the script is what differs, for want of its end; any line
+    /// would in its place.
+    #[test]
+    fn a_line_that_is_not_ended_stays_so() {
+        let task = Task { seed: 6, payload_lines: 300, ..Task::default() };
+        let (text, left) = told(&task, "mismatch-payloads.txt");
+        assert_eq!(left, PLAIN_PAYLOAD, "{text}");
+        assert!(text.contains("shrunk from 301 lines to 1 by "), "{text}");
+    }
+
+    /// Plays a byte less of a script than it should.
+    struct StopsShort;
+
+    impl Side for StopsShort {
+        fn answer(&self, sort: Sort, input: &[u8]) -> io::Result<String> {
+            Reference.answer(sort, &input[..input.len().min(SCRIPT_LIMIT - 1)])
+        }
+    }
+
+    #[test]
+    fn what_differs_at_the_limit_is_shrunk_to_a_comment_and_its_line() {
+        let task = Task { seed: 1, payload_lines: 300, ..Task::default() };
+        let (text, left) = told_by(&StopsShort, &task, "mismatch-payloads.txt");
+        let lines: Vec<&[u8]> = left.split(|&byte| byte == b'\n').collect();
+        assert_eq!(lines[1..], [&b"read-display 070241424344"[..], b""], "{text}");
+        assert_eq!(lines[0].len() + "\nread-display 07024142".len(), SCRIPT_LIMIT);
+        assert!(text.contains("# (1048494 bytes more)\n  read-display 0"), "{text}");
+    }
+
+    #[test]
     fn of_many_lines_the_middle_is_not_shown() {
         let lines = vec![&b"quiet"[..]; SHOWN + 5];
         assert_eq!(shown(&lines).lines().count(), SHOWN + 1);
         assert!(shown(&lines).contains("\n  (5 lines more)\n"));
         assert_eq!(shown(&lines[..2]), "  quiet\n  quiet\n");
+        assert_eq!(shown(&[b"quiet\r", b"\t#"]), "  quiet\\r\n  \\t#\n");
     }
 
     #[test]
     fn a_frame_is_shrunk_to_itself() {
-        let (text, left) = told(&Task { seed: 1, lines: 0, captures: 0..400 }, "mismatch.bin");
+        let (text, left) =
+            told(&Task { seed: 1, captures: 0..400, ..Task::default() }, "mismatch.bin");
         assert!(left.len() >= 12 && left[7] == 9, "{text}");
         assert_eq!(left.len(), 12 + usize::from(left[9]));
         assert!(text.contains(" bytes to "));

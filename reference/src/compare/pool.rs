@@ -107,7 +107,8 @@ mod tests {
     }
 
     fn outcome(side: &dyn Side, threads: usize) -> Outcome {
-        let tasks = (0..40).map(|at| Task { seed: 1, lines: 0, captures: 10 * at..10 * (at + 1) });
+        let captures = |at: u64| 10 * at..10 * (at + 1);
+        let tasks = (0..40).map(|at| Task { seed: 1, captures: captures(at), ..Task::default() });
         run(tasks, side, threads, &mut |_| ()).unwrap()
     }
 
@@ -136,6 +137,6 @@ mod tests {
                 Err(io::Error::new(io::ErrorKind::NotFound, "no program"))
             }
         }
-        assert!(run(task::of_gate(1, 1), &Missing, 2, &mut |_| ()).is_err());
+        assert!(run(task::of_gate(1, 1, 1), &Missing, 2, &mut |_| ()).is_err());
     }
 }

@@ -54,10 +54,11 @@ impl Progress {
 
     pub fn text(&self, outcome: &Outcome) -> String {
         let seconds = self.started.elapsed().as_secs();
-        let (lines, captures) =
-            (outcome.totals.scripts.lines(), outcome.totals.captures.captures());
-        let (seeds, first) = (outcome.tasks, self.first_seed);
-        format!("soak: {seconds} s, {lines} lines, {captures} captures, {seeds} seeds from {first}")
+        let totals = &outcome.totals;
+        let (lines, captures) = (totals.scripts.lines(), totals.captures.captures());
+        let (payloads, seeds) = (totals.payloads.lines(), outcome.tasks);
+        let counts = format!("{lines} lines, {captures} captures, {payloads} payload lines");
+        format!("soak: {seconds} s, {counts}, {seeds} seeds from {}", self.first_seed)
     }
 }
 
@@ -69,6 +70,6 @@ mod tests {
     fn the_line_has_the_counts() {
         let progress = Progress::new(Style::Lines, 70);
         let text = progress.text(&Outcome { tasks: 3, ..Outcome::default() });
-        assert_eq!(text, "soak: 0 s, 0 lines, 0 captures, 3 seeds from 70");
+        assert_eq!(text, "soak: 0 s, 0 lines, 0 captures, 0 payload lines, 3 seeds from 70");
     }
 }

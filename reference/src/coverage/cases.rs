@@ -4,9 +4,9 @@ use super::discoveries;
 use super::required::named;
 use super::retypings::retyped;
 use crate::frame;
+use crate::language;
 use crate::line::{Kind, Line};
 use crate::panel::Panel;
-use crate::script;
 use crate::state::{Exchange, Phase};
 
 /// An answer without positions, counts and bytes.
@@ -165,7 +165,7 @@ fn accepted_how(before: &Panel, line: &str, after: &Panel) -> String {
 
 /// The bytes of a `frame` line.
 pub fn bytes_of(line: &str) -> Vec<u8> {
-    line.split(' ').nth(2).and_then(script::pairs).unwrap_or_default()
+    line.split(' ').nth(2).and_then(language::pairs).unwrap_or_default()
 }
 
 /// Method and parameter 1 of the request in a `frame` line, if this panel reads

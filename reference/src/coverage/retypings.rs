@@ -79,7 +79,7 @@ impl Retypings {
 mod tests {
     use super::*;
     use crate::draft::Draft;
-    use crate::script::hex;
+    use crate::language::hex;
 
     /// Boards of these types, with the MACs 1, 2, ...
     fn with(types: &[u8]) -> Panel {

@@ -4,8 +4,9 @@
 use super::cases::{bytes_of, due, head, step};
 use crate::checksum;
 use crate::frame::{self, ALL_SUBNETS};
+use crate::language::hex;
 use crate::panel::Panel;
-use crate::script::{hex, Player};
+use crate::script::Player;
 use crate::state::Exchange;
 use std::collections::BTreeMap;
 

@@ -2,8 +2,8 @@
 //! read in two ways.
 
 use super::Generator;
+use crate::language::hex;
 use crate::line::Line;
-use crate::script::hex;
 
 const BAD_LINES: [&str; 39] = [
     "turn",

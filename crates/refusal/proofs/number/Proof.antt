@@ -73,6 +73,12 @@ enum-told-22 c = search needs
 enum-told-23 : tie.Need-enum-told-23
 enum-told-23 c = search needs
 
+enum-told-24 : tie.Need-enum-told-24
+enum-told-24 c = search needs
+
+enum-told-25 : tie.Need-enum-told-25
+enum-told-25 c = search needs
+
 returns : tie.Need-returns
 returns c = rw (c .enum-told .given .1) refl
 
@@ -142,6 +148,12 @@ returns-22 c = rw (c .enum-told22 .given .1) refl
 returns-23 : tie.Need-returns-23
 returns-23 c = rw (c .enum-told23 .given .1) refl
 
+returns-24 : tie.Need-returns-24
+returns-24 c = rw (c .enum-told24 .given .1) refl
+
+returns-25 : tie.Need-returns-25
+returns-25 c = rw (c .enum-told25 .given .1) refl
+
 pub number-spec : {M : Type 1} → statement M
 number-spec =
     tie.close
@@ -169,6 +181,8 @@ number-spec =
     enum-told-21
     enum-told-22
     enum-told-23
+    enum-told-24
+    enum-told-25
     returns
     returns-2
     returns-3
@@ -191,4 +205,6 @@ number-spec =
     returns-20
     returns-21
     returns-22
-    returns-23)
+    returns-23
+    returns-24
+    returns-25)

@@ -1,0 +1,4 @@
+pub mod Text
+pub mod Messages
+pub mod Form
+pub mod Numbers

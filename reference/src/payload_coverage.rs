@@ -1,0 +1,182 @@
+//! Counts what the scripts for `payloads` reached, seen from their lines and
+//! answers.
+
+mod required;
+mod texts;
+
+use crate::counts::Counts;
+use crate::payload_scripts::Line;
+use crate::payloads;
+use crate::rows::Rows;
+use texts::Texts;
+
+#[derive(Clone, Debug, Default)]
+pub struct PayloadCoverage {
+    counted: Counted,
+    texts: Texts,
+    scripts: u64,
+    lines: u64,
+    answers: u64,
+    bytes: u64,
+}
+
+/// What was met: answers, single cases, and each number of a row.
+#[derive(Clone, Debug, Default)]
+pub struct Counted {
+    pub answers: Counts,
+    pub cases: Counts,
+    pub rows: Rows,
+}
+
+impl PayloadCoverage {
+    /// Notes one line, as far as it is played, and its answer.
+    pub fn note(&mut self, line: &Line, answer: Option<&str>) {
+        self.lines += 1;
+        self.answers += u64::from(answer.is_some());
+        let head = head(&line.text, answer);
+        if let Some(oddity) = &line.oddity {
+            self.counted.cases.count(format!("{oddity}: {head}"));
+        }
+        let text = std::str::from_utf8(&line.text).ok();
+        let command =
+            text.and_then(|text| payloads::parse(&text.split(' ').collect::<Vec<&str>>()));
+        self.texts.note(&mut self.counted, command.as_ref(), &head);
+        self.counted.answers.count(head);
+    }
+
+    /// Notes a line that is not played, for where it stands.
+    pub fn note_past_limit(&mut self) {
+        self.counted.cases.count("a line past the limit");
+    }
+
+    pub fn end_script(&mut self, bytes: usize) {
+        self.scripts += 1;
+        self.bytes += bytes as u64;
+    }
+
+    /// Adds what other scripts reached.
+    pub fn add(&mut self, other: &PayloadCoverage) {
+        self.counted.answers.add(&other.counted.answers);
+        self.counted.cases.add(&other.counted.cases);
+        self.counted.rows.add(&other.counted.rows);
+        self.scripts += other.scripts;
+        self.lines += other.lines;
+        self.answers += other.answers;
+        self.bytes += other.bytes;
+    }
+
+    pub fn scripts(&self) -> u64 {
+        self.scripts
+    }
+
+    /// The lines played.
+    pub fn lines(&self) -> u64 {
+        self.lines
+    }
+
+    /// Those of them that have an answer.
+    pub fn answers(&self) -> u64 {
+        self.answers
+    }
+
+    /// What can be given and was not.
+    pub fn missing(&self) -> Vec<String> {
+        let mut missing = self.counted.answers.missing(required::answers());
+        missing.extend(self.counted.cases.missing(required::cases()));
+        missing.extend(self.counted.rows.missing(&required::rows()));
+        missing
+    }
+
+    pub fn report(&self) -> String {
+        let (scripts, lines, bytes) = (self.scripts, self.lines, self.bytes);
+        let mut text = format!("payload scripts: {scripts}, {lines} lines, {bytes} bytes\n");
+        text.push_str(&self.counted.answers.section("answers"));
+        text.push_str(&self.counted.cases.section("cases"));
+        let title = "each number of a row, as often as the rarest of them was met";
+        text.push_str(&self.counted.rows.section(title, &required::rows()));
+        text
+    }
+}
+
+/// An answer without its numbers, but for a refusal's; what is passed over by
+/// what it is.
+fn head(line: &[u8], answer: Option<&str>) -> String {
+    let words: Vec<&str> = answer.unwrap_or("").split(' ').collect();
+    match words[..] {
+        ["refuse", number] => format!("refuse {number}"),
+        ["bad", ..] => "bad line".to_string(),
+        [""] if line.is_empty() => "passed over, an empty line".to_string(),
+        [""] => "passed over, a comment".to_string(),
+        [first, ..] => first.to_string(),
+        [] => String::new(),
+    }
+}
+
+#[cfg(test)]
+mod tests {
+    use super::*;
+    use crate::payloads::Player;
+
+    fn coverage(lines: &[&str]) -> PayloadCoverage {
+        let (mut player, mut coverage) = (Player::default(), PayloadCoverage::default());
+        for line in lines {
+            let answer = player.play(line.as_bytes());
+            coverage.note(&Line::plain(*line), answer.as_deref());
+        }
+        coverage
+    }
+
+    #[test]
+    fn what_is_not_there_is_missing() {
+        let all = required::answers().len() + required::cases().len() + required::rows().len();
+        assert_eq!(PayloadCoverage::default().missing().len(), all);
+        assert_eq!(coverage(&["", "#", "nonsense"]).missing().len(), all - 3);
+    }
+
+    #[test]
+    fn a_line_is_counted_by_its_faults() {
+        let lines = [
+            ("read-display 050141", "read-display, all is right: display"),
+            ("read-display 050241", "read-display, lengths differ: refuse 32"),
+            ("read-display 05021F", "read-display, lengths differ, bad text: refuse 32"),
+            ("read-display 05FF41", READ_BOTH_LENGTHS),
+            ("read-diagnostics 0000000141", "read-diagnostics, codes 0 with a text: diagnostics"),
+            ("write-display 3 5 41", "write-display, all is right: wrote"),
+            ("write-display 2 5 41", "write-display, no room: refuse 11"),
+            ("write-display 2 5 7F", "write-display, bad text, no room: refuse 33"),
+            ("write-diagnostics 4 5 0 0", "write-diagnostics, the clearing message: wrote"),
+        ];
+        for (line, case) in lines {
+            assert_eq!(coverage(&[line]).counted.cases.of(case), 1, "{line}");
+        }
+    }
+
+    const READ_BOTH_LENGTHS: &str =
+        "read-display, lengths differ, length above the maximum: refuse 32";
+
+    #[test]
+    fn a_line_is_counted_by_its_numbers() {
+        let lines =
+            ["read-display 050341427E", "read-display 0503419F43", "write-display 3 5 4142"];
+        let coverage = coverage(&lines);
+        let counted = |name: &str, number| coverage.counted.rows.of(name, number);
+        assert_eq!(counted("read-display: display, first byte", 0x41), 1);
+        assert_eq!(counted("read-display: display, middle byte", 0x42), 1);
+        assert_eq!(counted("read-display: display, last byte", 0x7E), 1);
+        assert_eq!(counted("read-display: display, TYPE", 5), 1);
+        assert_eq!(counted("read-display: refuse 33, middle byte", 0x9F), 1);
+        assert_eq!(counted("read-display: refuse 33, first byte", 0x41), 0);
+        assert_eq!(counted("read-display: refuse 33, place of the bad byte", 1), 1);
+        assert_eq!(counted("write-display: refuse 11, room for a text of 2", 3), 1);
+    }
+
+    #[test]
+    fn what_is_read_back_is_what_the_line_before_wrote() {
+        let (write, read) = ("write-display 9 5 4142", "read-display 05024142");
+        let back = |lines: &[&str]| {
+            let name = "read-display: display, written before, text of so many";
+            coverage(lines).counted.rows.of(name, 2)
+        };
+        assert_eq!([back(&[write, read]), back(&[read]), back(&[write, "", read])], [1, 0, 0]);
+    }
+}
