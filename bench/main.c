@@ -3,6 +3,7 @@
  * main loop HOW EVENT BOARDS TIMES: runs one step so many times, for a count of instructions.
  * main list SIDE CAPTURE TIMES: finds all in a capture so many times, for the same. */
 #define _POSIX_C_SOURCE 199309L
+#include "inside.h"
 #include "same.h"
 #include "work.h"
 
@@ -185,6 +186,21 @@ static void ready_table(struct work *w) {
     }
 }
 
+/* Frames of 252 bytes with messages inside messages, beside the frame's own reader and writer, all ours. */
+static void inside_table(struct work *w) {
+    static uint8_t frame[CT_FRAME];
+    w->subnet = SUBNET;
+    for (int writes = 0; writes < 2; writes++) {
+        printf("\n%-34s %12s %12s %8s\n", "ns a call", writes ? "wrap" : "unwrap", writes ? "write" : "read", "ratio");
+        for (size_t depth = 0; depth <= NADRELGOS_LEVELS; depth++) {
+            char name[64];
+            w->bytes = frame, w->count = make_inside(depth, frame);
+            snprintf(name, sizeof name, "252 bytes, levels: %zu", depth);
+            row(name, w, writes ? wrap_proved : unwrap_proved, writes ? write_proved : read_proved, 20, 4000);
+        }
+    }
+}
+
 enum { LENT, COUNTERPART, STEPPERS };
 static job *const steppers[STEPPERS] = {steps_lent, steps_counterpart};
 
@@ -314,6 +330,7 @@ int main(int argc, char **argv) {
     time_clock();
     wire_table(&w, &counterpart);
     ready_table(&w);
+    inside_table(&w);
     step_table(&w);
     growth_table(&w);
     return 0;

@@ -4,12 +4,14 @@
  * The archive libpanel.a, which `rt staticlib panel` proves and writes, has nadrelgos_setup, nadrelgos_step and, for
  * tools, nadrelgos_list, _clear and _mark. A second one, libfinder.a (`rt staticlib finder`), has nadrelgos_find, for a
  * host that cuts the line's bytes at a silence; a firmware that has whole frames from elsewhere need not link it. A
- * third one, libdisplay.a (`rt staticlib display`), reads and writes texts and faults for a display. They are written
- * in Rattle and proved to do what the definitions under crates/ say, for every input; docs/PROMISES.md leads from each
- * rule to its definition, its theorem and its code. This header is not proved: it restates those definitions for
- * whoever writes the firmware. The archives are for x86-64; the assertions at the end stop a build whose records would
- * be laid out otherwise. Of C's library libpanel.a needs memcpy and memset, and a call of it takes up to some 1.5
- * kilobytes of stack, which `hosts/c/run stack` measures; libfinder.a and libdisplay.a need nothing.
+ * third one, libdisplay.a (`rt staticlib display`), reads and writes texts and faults for a display, and a fourth one,
+ * libencapsulation.a (`rt staticlib encapsulation`), messages inside messages. They are written in Rattle and proved to
+ * do what the definitions under crates/ say, for every input; docs/PROMISES.md leads from each rule to its definition,
+ * its theorem and its code. This header is not proved: it restates those definitions for whoever writes the firmware.
+ * The archives are for x86-64; the assertions at the end stop a build whose records would be laid out otherwise. Of C's
+ * library libpanel.a needs memcpy and memset and libencapsulation.a memcpy; the others need nothing. A call of
+ * libpanel.a takes up to some 1.5 kilobytes of stack, one of libencapsulation.a up to 0.7: `hosts/c/run stack` measures
+ * both.
  *
  * WHO OWNS WHAT
  *   The host owns all memory: one coordinator record, forty node records, and the buffers. Nothing is allocated and
@@ -45,7 +47,8 @@
  *                              position joined, a board has joined there.
  *          NADRELGOS_DELIVER   it was a request for the host. Send the ACK that was written, then see to the request:
  *                              type received[7], payload received + 10, received[9] bytes long. The wait is over.
- *                              A text or a fault for the display, types 4 and 5: see TEXTS AND FAULTS.
+ *                              A text or a fault for the display, types 4 and 5: see TEXTS AND FAULTS. A message
+ *                              that holds another, type 0x7E: see MESSAGES INSIDE MESSAGES.
  *          NADRELGOS_WAIT      it was an ACK, to a forwarded request or to Get Node ID, and the response is still to
  *                              come. Nothing to send: start the timer again and go on listening.
  *          refused             1 to 9, 23 or 24: it was not taken. The wait goes on, and so does the timer.
@@ -95,6 +98,15 @@
  *   ending zero as text is refused 33, one that sends it without counting it 32. The writers make such payloads, for
  *   whoever sends them. The response to either carries the payload NADRELGOS_REPLY, by which nadrelgos_is_reply knows
  *   it; the panel answers what is delivered with the ACK, and no call of it makes a response.
+ *
+ * MESSAGES INSIDE MESSAGES
+ *   A gateway carries messages in Network Encapsulation, type 0x7E (API Reference, 6.10): a code, three operands and
+ *   one whole message, which may hold another in the same way, up to four levels deep. Give the whole frame that was
+ *   received, not only its payload, to nadrelgos_unwrap: where it is not refused, the plain message's type is `message`
+ *   and its payload `length` bytes from received + start on. A frame of any other type is its own plain message, in no
+ *   level. What is refused is nobody's message: take nothing from it, the outer levels included. nadrelgos_wrap writes
+ *   such a frame, to be sent by whoever sends frames of his own; the panel carries an encapsulation that one board
+ *   sends to another as any other request, and opens none.
  *
  * READING THE RECORDS
  *   Between calls the host may read every field, as for its screen: the table is the list of who is there, with the
@@ -227,13 +239,14 @@ enum nadrelgos_event_number {
 };
 
 /*
- * The numbers by which a call is refused: byte 0 of an answer, or the field `refusal` of what is said of a text or a
- * fault; 0 where it was accepted. Each says when it is given, then what the firmware does next. "Listen on" means: the
- * wait, where one is on, is still on. Drop the bytes and go on listening until a frame ends the wait; when the reply
- * timer has run out, call nadrelgos_quiet. "The exchange" is the one by which a board joins: stages 8 to 13. Where more
- * than one holds, the first in this order is given: 22; then in setup 21, 13; in a join 12 to 16; in a discover 14, 15,
- * 16, 11; in a turn 18, 19, 11; in a frame 1 to 4, 24, 5, 23, 6 to 9, 11; in a quiet 20. Of a text or a fault 32, 33,
- * and where it is written 11.
+ * The numbers by which a call is refused: byte 0 of an answer, or the field `refusal` of what is said of a text, a
+ * fault or an encapsulation; 0 where it was accepted. Each says when it is given, then what the firmware does next.
+ * "Listen on" means: the wait, where one is on, is still on. Drop the bytes and go on listening until a frame ends the
+ * wait; when the reply timer has run out, call nadrelgos_quiet. "The exchange" is the one by which a board joins:
+ * stages 8 to 13. Where more than one holds, the first in this order is given: 22; then in setup 21, 13; in a join 12
+ * to 16; in a discover 14, 15, 16, 11; in a turn 18, 19, 11; in a frame 1 to 4, 24, 5, 23, 6 to 9, 11; in a quiet 20.
+ * Of a text or a fault 32, 33, and where it is written 11. Of a message inside messages 1 to 4, 24, then level by level
+ * 31, 30; where it is written 31, 10, 11.
  */
 enum nadrelgos_refusal_number {
     NADRELGOS_ACCEPTED = 0,
@@ -267,10 +280,13 @@ enum nadrelgos_refusal_number {
     NADRELGOS_BAD_METHOD = 9,       /* a request with a send method above 3 */
 
     /* what is written */
-    NADRELGOS_PAYLOAD_TOO_LONG = 10, /* a payload over 240 bytes to write. These functions never give it */
+    NADRELGOS_PAYLOAD_TOO_LONG = 10, /* a message inside messages: its payload and seven bytes for each level are over
+                                        240. Send it in fewer levels, or in parts. No other of these functions gives
+                                        it */
     NADRELGOS_NO_ROOM = 11,          /* a turn, a frame or a discover: out is shorter than the frame due. Call again
                                         with more room, and for a frame with the same bytes. NADRELGOS_ROOM always
-                                        suffices. A text or a fault: out is shorter than its payload */
+                                        suffices. A text or a fault: out is shorter than its payload. A message
+                                        inside messages: out is shorter than the frame; NADRELGOS_ROOM suffices */
 
     /* a join, and where it says so a discover */
     NADRELGOS_BAD_TYPE = 12,      /* node type 0 or 165; also an event number that is none of the five. Give it up */
@@ -302,6 +318,15 @@ enum nadrelgos_refusal_number {
                                    was accepted, or something else has written to them. Call nadrelgos_setup; the boards
                                    have to join again. Where the host has made or stored the table itself, look at its
                                    indexes first: see RECORDS THAT THE HOST MAKES */
+
+    /* a message inside messages. One that came in: take nothing from it, neither its outer levels nor its payload. Its
+       frame was good, and who made what is inside is wrong */
+    NADRELGOS_BAD_INNER = 30, /* the payload of an encapsulation, at some level, is not code, operands and one whole
+                                 message: under seven bytes, or the inner length byte is not exactly the count of the
+                                 bytes behind it */
+    NADRELGOS_TOO_DEEP = 31,  /* the message in the fourth level is itself an encapsulation, a fifth level; it was not
+                                 looked into. To be written: more than four levels: send it in fewer; or the message
+                                 inside is of type 0x7E, a level that was not given as one: give it as one */
 
     /* a text or a fault for the display. One that came in: show nothing of it. Its frame was good, and the board that
        sent it is wrong */
@@ -422,8 +447,9 @@ struct nadrelgos_text {
 
 /* What was written. */
 struct nadrelgos_writing {
-    uint8_t refusal; /* 0, or 32, 33 or 11 by enum nadrelgos_refusal_number: then no byte of out was changed */
-    size_t written;  /* how many bytes from out on are the payload; those past it stay. 0 where it is refused */
+    uint8_t refusal; /* 0, or a number by enum nadrelgos_refusal_number: then no byte of out was changed */
+    size_t written;  /* how many bytes from out on are what was to be written; those past it stay. 0 where it is
+                        refused */
 };
 
 /*
@@ -446,6 +472,71 @@ struct nadrelgos_writing nadrelgos_write_diagnostics(uint8_t kind, uint8_t major
 
 /* Whether a payload is that of the response to either: NADRELGOS_REPLY. */
 bool nadrelgos_is_reply(const uint8_t *payload, size_t payload_count);
+
+/* The message type of Network Encapsulation, and how many levels there may be. */
+#define NADRELGOS_ENCAPSULATION 0x7E
+#define NADRELGOS_LEVELS 4
+
+/* One level: code and operands, any bytes, and the packet number of the message that holds them: of the first level it
+   is the frame's. */
+struct nadrelgos_level {
+    uint8_t code;
+    uint8_t operand1;
+    uint8_t operand2;
+    uint8_t operand3;
+    uint8_t packet;
+};
+
+/* The levels, from the outermost on. */
+struct nadrelgos_levels {
+    struct nadrelgos_level level[NADRELGOS_LEVELS];
+};
+
+/* What was found inside a frame. All 0 but the first where it is refused. */
+struct nadrelgos_unwrapping {
+    uint8_t refusal;                /* 0, or 1 to 4, 24, 30 or 31 by enum nadrelgos_refusal_number */
+    uint8_t depth;                  /* how many levels there are around the plain message: 0 to 4 */
+    uint8_t message;                /* the plain message's type, any but 0x7E */
+    uint8_t packet;                 /* and its packet number */
+    struct nadrelgos_levels levels; /* the levels; zeros from the depth on */
+    size_t start;                   /* where in the received bytes its payload begins: 10, and 7 for each level */
+    size_t length;                  /* of its payload: 0 to 240, less 7 for each level */
+};
+
+/* The nine bytes of a frame before its payload length, in their order. */
+struct nadrelgos_header {
+    uint8_t destination;
+    uint8_t source;
+    uint8_t subnet;
+    uint8_t method;     /* send method */
+    uint8_t parameter1; /* send parameters */
+    uint8_t parameter2;
+    uint8_t kind;       /* source node type */
+    uint8_t message;    /* message type */
+    uint8_t packet;     /* packet number */
+};
+
+/*
+ * Messages inside messages, in libencapsulation.a.
+ *
+ *   ours                   our subnet, as setup was told it
+ *   received, .._count     what came in: the bytes of one whole frame, check bytes included. It is only read
+ *   header                 as of the frame that would carry the message plain: type and packet number are those of the
+ *                          message inside. Of the frame that is written they are 0x7E and the first level's packet
+ *                          number, where there is a level; all other fields are the header's
+ *   levels, depth          the levels around it, from the outermost on, and how many of them: 0 to 4. The others are
+ *                          not looked at
+ *   payload, .._count      of the message inside: up to 240 bytes, less 7 for each level. For none any byte's address
+ *                          and 0: not null. It does not overlap out
+ *   out, out_count         the whole frame is written at its front, 12 bytes, 7 for each level and the payload
+ *
+ * The reader is refused 1 to 4, 24; then level by level 31, 30. The writer 31, 10, 11. What was wrapped is unwrapped to
+ * the same, by a system that takes its subnet; what was unwrapped and is wrapped again, with the fields of its frame
+ * and the type and packet number that were found, is the same frame, but that a check byte 0 becomes 255.
+ */
+struct nadrelgos_unwrapping nadrelgos_unwrap(uint8_t ours, const uint8_t *received, size_t received_count);
+struct nadrelgos_writing nadrelgos_wrap(struct nadrelgos_header header, struct nadrelgos_levels levels, size_t depth,
+                                        const uint8_t *payload, size_t payload_count, uint8_t *out, size_t out_count);
 
 /*
  * The parts of an answer, low byte first: the refusal's number, the answer, the board awaited, its exchange, the
@@ -611,6 +702,34 @@ NADRELGOS_LAID_OUT(offsetof(struct nadrelgos_text, length) == 16);
 NADRELGOS_LAID_OUT(sizeof(struct nadrelgos_writing) == 16);
 NADRELGOS_LAID_OUT(offsetof(struct nadrelgos_writing, refusal) == 0);
 NADRELGOS_LAID_OUT(offsetof(struct nadrelgos_writing, written) == 8);
+
+NADRELGOS_LAID_OUT(sizeof(struct nadrelgos_level) == 5);
+NADRELGOS_LAID_OUT(offsetof(struct nadrelgos_level, code) == 0);
+NADRELGOS_LAID_OUT(offsetof(struct nadrelgos_level, operand1) == 1);
+NADRELGOS_LAID_OUT(offsetof(struct nadrelgos_level, operand2) == 2);
+NADRELGOS_LAID_OUT(offsetof(struct nadrelgos_level, operand3) == 3);
+NADRELGOS_LAID_OUT(offsetof(struct nadrelgos_level, packet) == 4);
+NADRELGOS_LAID_OUT(sizeof(struct nadrelgos_levels) == 20);
+
+NADRELGOS_LAID_OUT(sizeof(struct nadrelgos_unwrapping) == 40);
+NADRELGOS_LAID_OUT(offsetof(struct nadrelgos_unwrapping, refusal) == 0);
+NADRELGOS_LAID_OUT(offsetof(struct nadrelgos_unwrapping, depth) == 1);
+NADRELGOS_LAID_OUT(offsetof(struct nadrelgos_unwrapping, message) == 2);
+NADRELGOS_LAID_OUT(offsetof(struct nadrelgos_unwrapping, packet) == 3);
+NADRELGOS_LAID_OUT(offsetof(struct nadrelgos_unwrapping, levels) == 4);
+NADRELGOS_LAID_OUT(offsetof(struct nadrelgos_unwrapping, start) == 24);
+NADRELGOS_LAID_OUT(offsetof(struct nadrelgos_unwrapping, length) == 32);
+
+NADRELGOS_LAID_OUT(sizeof(struct nadrelgos_header) == 9);
+NADRELGOS_LAID_OUT(offsetof(struct nadrelgos_header, destination) == 0);
+NADRELGOS_LAID_OUT(offsetof(struct nadrelgos_header, source) == 1);
+NADRELGOS_LAID_OUT(offsetof(struct nadrelgos_header, subnet) == 2);
+NADRELGOS_LAID_OUT(offsetof(struct nadrelgos_header, method) == 3);
+NADRELGOS_LAID_OUT(offsetof(struct nadrelgos_header, parameter1) == 4);
+NADRELGOS_LAID_OUT(offsetof(struct nadrelgos_header, parameter2) == 5);
+NADRELGOS_LAID_OUT(offsetof(struct nadrelgos_header, kind) == 6);
+NADRELGOS_LAID_OUT(offsetof(struct nadrelgos_header, message) == 7);
+NADRELGOS_LAID_OUT(offsetof(struct nadrelgos_header, packet) == 8);
 #undef NADRELGOS_LAID_OUT
 #endif
 

@@ -23,6 +23,12 @@ static const struct request requests[] = {
     {FURNACE, 6, TYPE_DIAGNOSTICS, 0, 0, 4, "\x02\x00\x00"},              /* the fault is gone */
     {CROSSOVER, 3, TYPE_DIAGNOSTICS, 0, 0, 4, "\x09\x00\x07"},            /* a fault without words */
     {AIR_CONDITIONER, 4, TYPE_DIAGNOSTICS, 0, 0, 3, "\x04\x01\x00"},      /* cut off */
+    /* messages inside messages, in levels of seven bytes: code, three operands, and type, packet number and length of
+       the message that the level holds */
+    {CROSSOVER, 4, TYPE_ENCAPSULATION, 0, 0, 17, "\1\0\0\0\x7E\0\x0A" "\2\0\0\0\x02\0\x03" "\1\2\3"},
+    {CROSSOVER, 5, TYPE_ENCAPSULATION, 0, 0, 17, "\1\0\0\0\x7E\0\x0A" "\2\0\0\0\x02\0\x04" "\1\2\3"}, /* cut off */
+    {CROSSOVER, 6, TYPE_ENCAPSULATION, 0, 0, 35,                          /* five levels */
+     "\1\0\0\0\x7E\0\x1C" "\2\0\0\0\x7E\0\x15" "\3\0\0\0\x7E\0\x0E" "\4\0\0\0\x7E\0\x07" "\5\0\0\0\x02\0\0"},
 };
 
 /* The air conditioner leaves its first Set Address unanswered; the crossover gives no ID when it is asked for it. */

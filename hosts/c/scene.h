@@ -11,7 +11,7 @@ struct request {
     unsigned offer;
     uint8_t type, method, parameter;
     size_t count;
-    uint8_t payload[32];
+    uint8_t payload[40];
 };
 
 /* What a board does otherwise than it should at one of its messages. */

@@ -5,6 +5,7 @@
  *
  * The steps are those of a full table, forty boards, with the longest payloads that a frame can carry: accepted and
  * refused joins and discoveries, lists, offers, requests by each method with their forwards and returns, misses, drops.
+ * What is wrapped and unwrapped is the longest message in four levels.
  */
 #include "nadrelgos.h"
 #include "wire.h"
@@ -13,6 +14,9 @@
 #include <string.h>
 
 enum { STACK = 256 * 1024, PATTERN = 0xA5, SUBNET = 3, LONGEST = 240, FIRST_ADDRESS = 16 };
+
+/* the longest payload in four levels, of seven bytes each */
+enum { INNERMOST = LONGEST - 7 * NADRELGOS_LEVELS };
 
 /* the node types of the boards in turn: a thermostat, a furnace, an air handler, an air conditioner */
 enum { KINDS = 4, FURNACE = 2 };
@@ -31,7 +35,7 @@ static bool astray; /* something came out otherwise than this program means it t
 static _Alignas(64) uint8_t stack[STACK];
 
 /* what is called: a step by its event's number, or one of these */
-enum { SETUP = 0, MARK = 6, CLEAR = 7, FIND = 8, CALLS = 9, NOTHING = 255 };
+enum { SETUP = 0, MARK = 6, CLEAR = 7, FIND = 8, WRAP = 9, UNWRAP = 10, CALLS = 11, NOTHING = 255 };
 
 struct call {
     uint8_t event;
@@ -43,6 +47,17 @@ struct call {
 /* By itself, so that the room for what it finds is not counted with the other calls. */
 __attribute__((noinline)) static void find(void) {
     if (nadrelgos_find(LONGEST, capture, sizeof capture, sizeof capture).number != NADRELGOS_NOTHING) astray = true;
+}
+
+/* The longest message in four levels, written into out; and what is there, read. By themselves too. */
+__attribute__((noinline)) static void wrap(void) {
+    static const struct nadrelgos_header header = {.subnet = SUBNET, .message = TYPE_CONTROL};
+    static const struct nadrelgos_levels levels;
+    if (nadrelgos_wrap(header, levels, NADRELGOS_LEVELS, capture, INNERMOST, out, sizeof out).refusal) astray = true;
+}
+
+__attribute__((noinline)) static void unwrap(void) {
+    if (nadrelgos_unwrap(SUBNET, out, sizeof out).depth != NADRELGOS_LEVELS) astray = true;
 }
 
 static void make(struct call *call) {
@@ -58,6 +73,8 @@ static void make(struct call *call) {
         call->answer = nadrelgos_clear(nodes, NADRELGOS_NODES, NADRELGOS_NODES);
         break;
     case FIND: find(); break;
+    case WRAP: wrap(); break;
+    case UNWRAP: unwrap(); break;
     default:
         call->answer = nadrelgos_step(&coordinator, nodes, NADRELGOS_NODES, call->event, call->kind, call->mac, 1,
                                       received, received_count, out, sizeof out);
@@ -225,16 +242,19 @@ int main(void) {
     measure(CLEAR, 0, 0);
     memset(capture, LONGEST, sizeof capture);
     measure(FIND, 0, 0);
+    measure(WRAP, 0, 0);
+    measure(UNWRAP, 0, 0);
     if (astray) {
         printf("stack: the panel did not do what this program means to measure\n");
         return 1;
     }
 
     printf("stack of one call, in bytes, over %u calls on a full table (%u refused):\n", calls, refused);
-    printf("  setup %u, join %u, turn %u, frame %u, quiet %u, discover %u, mark %u, clear %u, find %u\n",
+    printf("  setup %u, join %u, turn %u, frame %u, quiet %u, discover %u, mark %u, clear %u, find %u, unwrap %u, "
+           "wrap %u\n",
            (unsigned)deepest[SETUP], (unsigned)deepest[NADRELGOS_EVENT_JOIN], (unsigned)deepest[NADRELGOS_EVENT_TURN],
            (unsigned)deepest[NADRELGOS_EVENT_FRAME], (unsigned)deepest[NADRELGOS_EVENT_QUIET],
            (unsigned)deepest[NADRELGOS_EVENT_DISCOVER], (unsigned)deepest[MARK], (unsigned)deepest[CLEAR],
-           (unsigned)deepest[FIND]);
+           (unsigned)deepest[FIND], (unsigned)deepest[UNWRAP], (unsigned)deepest[WRAP]);
     return 0;
 }

@@ -12,18 +12,21 @@ static void sums_over(const uint8_t *bytes, size_t count, unsigned *first, unsig
     }
 }
 
+size_t wire_seal(uint8_t *frame, size_t end) {
+    unsigned first, second;
+    sums_over(frame, end, &first, &second);
+    frame[end] = (uint8_t)(255 - (first + second) % 255);
+    frame[end + 1] = (uint8_t)(255 - (first + frame[end]) % 255);
+    return end + 2;
+}
+
 size_t wire_frame(uint8_t *frame, struct sender from, uint8_t type, uint8_t packet, uint8_t method, uint8_t parameter,
                   const uint8_t *payload, size_t count) {
     const uint8_t head[AT_PAYLOAD] = {WIRE_PANEL, from.address, from.subnet, method, parameter,
                                       0,          from.kind,    type,        packet, (uint8_t)count};
-    size_t end = AT_PAYLOAD + count;
-    unsigned first, second;
     memcpy(frame, head, sizeof head);
     memcpy(frame + AT_PAYLOAD, payload, count);
-    sums_over(frame, end, &first, &second);
-    frame[end] = (uint8_t)(255 - (first + second) % 255);
-    frame[end + 1] = (uint8_t)(255 - (first + frame[end]) % 255);
-    return WIRE_AROUND + count;
+    return wire_seal(frame, AT_PAYLOAD + count);
 }
 
 size_t wire_ack(uint8_t *frame, struct sender from, uint64_t mac, uint64_t session) {

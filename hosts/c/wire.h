@@ -14,9 +14,10 @@ enum { AT_DESTINATION, AT_SOURCE, AT_SUBNET, AT_METHOD, AT_PARAMETER, AT_PARAMET
        AT_LENGTH, AT_PAYLOAD };
 
 /* Message types (API Reference, table 68): R2R and ACK, control command, display message, diagnostics, node list,
-   Node Discovery, Set Address, Get Node ID; a response has its request's type and this more. */
+   Node Discovery, Set Address, Get Node ID, encapsulation; a response has its request's type and this more. */
 enum { TYPE_R2R = 0x00, TYPE_CONTROL = 0x03, TYPE_DISPLAY = 0x04, TYPE_DIAGNOSTICS = 0x05, TYPE_LIST = 0x14,
-       TYPE_DISCOVER = 0x79, TYPE_ASSIGN = 0x7A, TYPE_IDENTIFY = 0x7B, TYPE_RESPONSE = 0x80 };
+       TYPE_DISCOVER = 0x79, TYPE_ASSIGN = 0x7A, TYPE_IDENTIFY = 0x7B, TYPE_ENCAPSULATION = 0x7E,
+       TYPE_RESPONSE = 0x80 };
 
 /* The first byte of an R2R frame's payload, the length of that, and its packet number (API Reference, 6.1 and 4.3). */
 enum { CODE_OFFER = 0x00, CODE_ACK = 0x06, R2R_LENGTH = 17, DATAFLOW = 0x80 };
@@ -35,6 +36,9 @@ struct sender {
 /* Writes a frame to the panel, and gives its length. `frame` has room for it; count is at most 240. */
 size_t wire_frame(uint8_t *frame, struct sender from, uint8_t type, uint8_t packet, uint8_t method, uint8_t parameter,
                   const uint8_t *payload, size_t count);
+
+/* Writes the check bytes behind the bytes of a frame, and gives its length. */
+size_t wire_seal(uint8_t *frame, size_t end);
 
 /* Writes an ACK to the panel: the code, the sender's MAC and its session. */
 size_t wire_ack(uint8_t *frame, struct sender from, uint64_t mac, uint64_t session);

@@ -28,8 +28,8 @@ const char *words_refusal(unsigned refusal) {
         "accepted", "short", "over-long", "length mismatch", "bad checksum", "not for us", "not awaited",
         "unexpected type", "bad echo", "bad method", "payload too long", "no room", "bad type", "bad MAC", "busy",
         "held", "full", "retired", "awaiting reply", "nobody listed", "not waiting", "bad pool", "state unfit",
-        "not discovering", "other subnet", [NADRELGOS_BAD_TEXT_LENGTH] = "bad text length",
-        [NADRELGOS_BAD_TEXT] = "bad text",
+        "not discovering", "other subnet", [NADRELGOS_BAD_INNER] = "bad inner", [NADRELGOS_TOO_DEEP] = "too deep",
+        [NADRELGOS_BAD_TEXT_LENGTH] = "bad text length", [NADRELGOS_BAD_TEXT] = "bad text",
     };
     return refusal < COUNT(names) && names[refusal] ? names[refusal] : "unknown";
 }
@@ -160,6 +160,32 @@ static void say_fault(struct words *words, const char *name, const uint8_t *payl
             (int)read.length, text);
 }
 
+/* Bytes in hex behind a colon, or nothing where there are none. Of more than a sentence has room for: the first. */
+enum { SHOWN = 16 };
+struct digits {
+    char text[sizeof ": ..." + 3 * SHOWN];
+};
+static struct digits digits_of(const uint8_t *bytes, size_t count) {
+    struct digits digits = {""};
+    size_t used = 0;
+    for (size_t i = 0; i < count && i < SHOWN; i++)
+        used += (size_t)snprintf(digits.text + used, sizeof digits.text - used, i ? " %02X" : ": %02X", bytes[i]);
+    if (count > SHOWN) snprintf(digits.text + used, sizeof digits.text - used, " ...");
+    return digits;
+}
+
+/* Or it holds a message inside messages. Of one that is refused nothing is shown, the outer levels neither. */
+static void say_inside(struct words *words, const struct panel *panel) {
+    const uint8_t *received = panel->received;
+    size_t count = WIRE_AROUND + (size_t)received[AT_LENGTH];
+    struct nadrelgos_unwrapping read = nadrelgos_unwrap(panel->coordinator.setup.subnet, received, count);
+    if (read.refusal)
+        say(words, "for the host: no message that can be unwrapped, %s", words_refusal(read.refusal));
+    else
+        say(words, "for the host: message of type %u in %u level%s, %u bytes%s", read.message, read.depth,
+            read.depth == 1 ? "" : "s", (unsigned)read.length, digits_of(received + read.start, read.length).text);
+}
+
 void words_request(struct words *words, const struct panel *panel, uint64_t wait) {
     unsigned type = panel->received[AT_TYPE], count = panel->received[AT_LENGTH];
     const uint8_t *payload = panel->received + AT_PAYLOAD;
@@ -168,6 +194,7 @@ void words_request(struct words *words, const struct panel *panel, uint64_t wait
     case NADRELGOS_SET_DIAGNOSTICS:
         say_fault(words, board_name(panel, nadrelgos_board(wait)), payload, count);
         break;
+    case NADRELGOS_ENCAPSULATION: say_inside(words, panel); break;
     default: say(words, "for the host: request %u with %u bytes", type, count); break;
     }
 }

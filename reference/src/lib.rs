@@ -6,10 +6,10 @@
 //! the script language; "C-11" is the change request for the AutoNet exchange,
 //! "C-12" the one by which a board that joins again may have another type,
 //! "C-13" the one by which each record keeps its board's index, "C-14" the one by
-//! which frames of another subnet are not read, "C-22" the one for the texts and
-//! faults that a display shows and "C-23" the one that retired number 17, as they
-//! were settled. The choices made where these are silent or can be read in two
-//! ways stand in DECISIONS.md.
+//! which frames of another subnet are not read, "C-21" the one for messages inside
+//! messages, "C-22" the one for the texts and faults that a display shows and
+//! "C-23" the one that retired number 17, as they were settled. The choices made
+//! where these are silent or can be read in two ways stand in DECISIONS.md.
 
 #![forbid(unsafe_code)]
 
@@ -21,6 +21,7 @@ pub mod counts;
 pub mod coverage;
 pub mod display;
 pub mod draft;
+pub mod encapsulation;
 pub mod finder;
 pub mod forms;
 pub mod frame;

@@ -1,19 +1,27 @@
 //! Counts what the scripts for `payloads` reached, seen from their lines and
 //! answers.
 
+mod nests;
 mod required;
+mod required_nests;
 mod texts;
+mod unwraps;
+mod walk;
+mod wraps;
 
 use crate::counts::Counts;
+use crate::language::pairs;
 use crate::payload_scripts::Line;
 use crate::payloads;
 use crate::rows::Rows;
+use nests::Nests;
 use texts::Texts;
 
 #[derive(Clone, Debug, Default)]
 pub struct PayloadCoverage {
     counted: Counted,
     texts: Texts,
+    nests: Nests,
     scripts: u64,
     lines: u64,
     answers: u64,
@@ -41,6 +49,7 @@ impl PayloadCoverage {
         let command =
             text.and_then(|text| payloads::parse(&text.split(' ').collect::<Vec<&str>>()));
         self.texts.note(&mut self.counted, command.as_ref(), &head);
+        self.nests.note(&mut self.counted, command.as_ref(), answer.unwrap_or_default());
         self.counted.answers.count(head);
     }
 
@@ -101,15 +110,26 @@ impl PayloadCoverage {
 /// An answer without its numbers, but for a refusal's; what is passed over by
 /// what it is.
 fn head(line: &[u8], answer: Option<&str>) -> String {
-    let words: Vec<&str> = answer.unwrap_or("").split(' ').collect();
+    match answer {
+        Some(answer) => head_of(answer),
+        None if line.is_empty() => "passed over, an empty line".to_string(),
+        None => "passed over, a comment".to_string(),
+    }
+}
+
+fn head_of(answer: &str) -> String {
+    let words: Vec<&str> = answer.split(' ').collect();
     match words[..] {
         ["refuse", number] => format!("refuse {number}"),
         ["bad", ..] => "bad line".to_string(),
-        [""] if line.is_empty() => "passed over, an empty line".to_string(),
-        [""] => "passed over, a comment".to_string(),
         [first, ..] => first.to_string(),
         [] => String::new(),
     }
+}
+
+/// What was written, by the answer.
+pub(crate) fn written(answer: &str) -> Option<Vec<u8>> {
+    answer.strip_prefix("wrote ")?.split(' ').nth(1).and_then(pairs)
 }
 
 #[cfg(test)]
@@ -145,12 +165,30 @@ mod tests {
             ("write-display 2 5 41", "write-display, no room: refuse 11"),
             ("write-display 2 5 7F", "write-display, bad text, no room: refuse 33"),
             ("write-diagnostics 4 5 0 0", "write-diagnostics, the clearing message: wrote"),
+            ("unwrap 3 02FF03", "unwrap, a frame that is short: refuse 1"),
+            (
+                "unwrap 3 02FF03000000A50000003D6D",
+                "unwrap, good, our subnet, plain inside 0: plain",
+            ),
+            ("unwrap 4 02FF03000000A50000003D6E", BAD_BEFORE_OTHER),
+            ("unwrap 3 02FF03000000A57E000701020304050001E62E", ONE_TOO_LARGE),
+            ("wrap 12 2 255 3 0 0 0 165 0 0 0", "wrap at depth 0, all is right: wrote"),
+            (
+                "wrap 11 2 255 3 0 0 0 165 0 0 0",
+                "wrap, depth 0, one byte less than is due: refuse 11",
+            ),
+            (
+                "wrap 9 2 255 3 0 0 0 165 0 126 0",
+                "wrap at depth 0, a level inside, no room: refuse 31",
+            ),
         ];
         for (line, case) in lines {
             assert_eq!(coverage(&[line]).counted.cases.of(case), 1, "{line}");
         }
     }
 
+    const BAD_BEFORE_OTHER: &str = "unwrap, bad checksum, another subnet, plain inside 0: refuse 4";
+    const ONE_TOO_LARGE: &str = "unwrap, level 1, length byte too large by one: refuse 30";
     const READ_BOTH_LENGTHS: &str =
         "read-display, lengths differ, length above the maximum: refuse 32";
 
@@ -171,6 +209,25 @@ mod tests {
     }
 
     #[test]
+    fn what_is_inside_is_counted_where_the_way_to_it_ends() {
+        let lines = [
+            "unwrap 3 02FF03000000A57E200910010203020002AABB91F0",
+            "unwrap 3 02FF03000000A57E0006010203040500DA3C",
+            "unwrap 3 02FF03000000A57E000B010203047E000405060708D2A7",
+            "wrap 64 2 255 3 0 0 0 165 1 16 1 2 3 32 2 0 AABB",
+        ];
+        let coverage = coverage(&lines);
+        let counted = |name: &str, number| coverage.counted.rows.of(name, number);
+        assert_eq!(counted("unwrap: plain, plain inside 1, payload of so many bytes", 2), 1);
+        assert_eq!(counted("unwrap: plain, plain inside 1, TYPE", 2), 1);
+        let few = "too few bytes, payload of so many bytes";
+        assert_eq!(counted(&format!("unwrap: refuse 30, level 1, {few}"), 6), 1);
+        assert_eq!(counted(&format!("unwrap: refuse 30, level 2, {few}"), 4), 1);
+        assert_eq!(counted("wrap: wrote, depth 1, payload of so many bytes", 2), 1);
+        assert_eq!(counted("wrap: wrote, LEVEL PACKET", 32), 1);
+    }
+
+    #[test]
     fn what_is_read_back_is_what_the_line_before_wrote() {
         let (write, read) = ("write-display 9 5 4142", "read-display 05024142");
         let back = |lines: &[&str]| {
@@ -178,5 +235,18 @@ mod tests {
             coverage(lines).counted.rows.of(name, 2)
         };
         assert_eq!([back(&[write, read]), back(&[read]), back(&[write, "", read])], [1, 0, 0]);
+    }
+
+    #[test]
+    fn what_is_unwrapped_is_what_the_line_before_wrapped() {
+        let (wrap, frame) = ("wrap 12 2 255 3 0 0 0 165 0 0 0", "02FF03000000A50000003D6D");
+        let (own, other) = (format!("unwrap 3 {frame}"), format!("unwrap 4 {frame}"));
+        let back = |lines: &[&str], case: &str| {
+            let case = format!("unwrap, wrapped before at depth 0, {case}");
+            coverage(lines).counted.cases.of(&case)
+        };
+        assert_eq!(back(&[wrap, &own], "our subnet: plain"), 1);
+        assert_eq!(back(&[wrap, &other], "another subnet: refuse 24"), 1);
+        assert_eq!(back(&[wrap, "", &own], "our subnet: plain"), 0);
     }
 }

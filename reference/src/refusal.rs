@@ -26,6 +26,8 @@ pub enum Refusal {
     StateUnfit = 22,
     NotDiscovering = 23,
     OtherSubnet = 24,
+    BadInner = 30,
+    TooDeep = 31,
     BadTextLength = 32,
     BadText = 33,
 }

@@ -1,5 +1,6 @@
 //! Set Display and Set Diagnostics (003, 5.4 and 5.5; C-22) and the program
-//! `payloads`, with answers worked out by hand from the tables.
+//! `payloads`, with the lines of C-21 too; answers are worked out by hand from the
+//! tables.
 
 use reference::display::{self, Diagnostics, Display};
 use reference::display::{read_diagnostics, read_display, write_diagnostics, write_display};
@@ -430,14 +431,57 @@ const LINES: [(&str, &str); 22] = [
     ("write-diagnostics 1024 1 2", "bad line 22"),
 ];
 
+/// The frames of the tests of encapsulation, where their check bytes are worked
+/// out, as lines.
+const WRAPPED: [(&str, &str); 27] = [
+    ("# one level, then what is in it", ""),
+    ("wrap 64 2 255 3 0 0 0 165 1 16 1 2 3 32 2 0 AABB", ONE_LEVEL),
+    ("unwrap 3 02FF03000000A57E200910010203020002AABB91F0", "plain 1 16 1 2 3 32 2 0 2 AABB"),
+    ("unwrap 0 02FF03000000A57E200910010203020002AABB91F0", "refuse 24"),
+    ("unwrap 4 02FF03000000A57E200910010203020002AABB91F0", "refuse 24"),
+    ("unwrap 3 02FF03000000A57E200910010203020002AABB91F1", "refuse 4"),
+    ("unwrap 3 02FF03000000A57E200910010203020002AABB91", "refuse 3"),
+    ("unwrap 3 02FF03000000A57E20F110010203020002AABB91F0", "refuse 2"),
+    ("unwrap 3 02FF03000000A57E200910", "refuse 1"),
+    ("unwrap 3", "refuse 1"),
+    ("wrap 21 2 255 3 0 0 0 165 1 16 1 2 3 32 2 0 AABB", ONE_LEVEL),
+    ("wrap 20 2 255 3 0 0 0 165 1 16 1 2 3 32 2 0 AABB", "refuse 11"),
+    ("wrap 64 2 255 3 0 0 0 165 1 16 1 2 3 32 126 0 AABB", "refuse 31"),
+    (FOUR, FOUR_LEVELS),
+    (UNWRAP_FOUR, "plain 4 1 2 3 4 5 6 7 8 9 10 11 12 13 14 15 16 17 18 19 20 21 22 0"),
+    (UNWRAP_FIVE, "refuse 31"),
+    ("unwrap 3 02FF03000000A57E0006010203040500DA3C", "refuse 30"),
+    ("unwrap 3 02FF03000000A57E000701020304050001E62E", "refuse 30"),
+    ("unwrap 3 02FF03000000A57E000801020304050000417261", "refuse 30"),
+    ("unwrap 3 02FF03000000A57E000701020304050000E82D", "plain 1 1 2 3 4 0 5 0 0"),
+    ("unwrap 3 02FF03000000A5FE000401020304B9E3", "plain 0 254 0 4 01020304"),
+    ("# without levels it is the frame of 01", ""),
+    ("wrap 12 2 255 3 0 0 0 165 0 0 0", "wrote 12 02FF03000000A50000003D6D"),
+    ("wrap 12 2 255 3 0 0 0 165 0 126 0", "refuse 31"),
+    ("unwrap 3 02ff03000000a50000003d6d", "plain 0 0 0 0"),
+    ("wrap 12 2 255 3 0 0 0 165 1 0 0", "bad line 26"),
+    ("wrap 12 2 255 3 0 0 0 165 5 1 2 3 4 5 0 0", "bad line 27"),
+];
+const ONE_LEVEL: &str = "wrote 21 02FF03000000A57E200910010203020002AABB91F0";
+const FOUR: &str =
+    "wrap 40 2 255 3 0 0 0 165 4 1 2 3 4 5 6 7 8 9 10 11 12 13 14 15 16 17 18 19 20 21 22";
+const FOUR_LEVELS: &str = "wrote 40 02FF03000000A57E051C010203047E0A15060708097E0F0E\
+                           0B0C0D0E7E1407101112131516005517";
+const UNWRAP_FOUR: &str = "unwrap 3 02FF03000000A57E051C010203047E0A15060708097E0F0E\
+                           0B0C0D0E7E1407101112131516005517";
+const UNWRAP_FIVE: &str = "unwrap 3 02FF03000000A57E0523010203047E0A1C060708097E0F15\
+                           0B0C0D0E7E140E101112137E1607111213141517002544";
+
 #[test]
 fn lines_are_answered_as_worked_out() {
-    let script: String = LINES.iter().map(|(line, _)| format!("{line}\n")).collect();
-    let answered = LINES.iter().filter(|(_, answer)| !answer.is_empty());
-    let answers: String = answered.map(|(_, answer)| format!("{answer}\n")).collect();
-    assert_eq!(play_all(script.as_bytes()), answers);
-    assert_eq!(play_all(script.trim_end().as_bytes()), answers);
-    assert_eq!(played(script.as_bytes()), answers);
+    for lines in [&LINES[..], &WRAPPED] {
+        let script: String = lines.iter().map(|(line, _)| format!("{line}\n")).collect();
+        let answered = lines.iter().filter(|(_, answer)| !answer.is_empty());
+        let answers: String = answered.map(|(_, answer)| format!("{answer}\n")).collect();
+        assert_eq!(play_all(script.as_bytes()), answers);
+        assert_eq!(play_all(script.trim_end().as_bytes()), answers);
+        assert_eq!(played(script.as_bytes()), answers);
+    }
 }
 
 /// 1,024 bytes are taken as HEX, and refused for their length; 1,025 are none.
@@ -448,7 +492,15 @@ fn the_longest_hex_is_a_line() {
         assert_eq!(play_all(line(1024).as_bytes()), "refuse 32\n");
         assert_eq!(play_all(line(1025).as_bytes()), "bad line 1\n");
     }
+    for (start, refused) in [("unwrap 3", "refuse 3\n"), (TO_WRAP, "refuse 10\n")] {
+        let line = |bytes: usize| format!("{start} {}", "41".repeat(bytes));
+        assert_eq!(play_all(line(1024).as_bytes()), refused);
+        assert_eq!(play_all(line(1025).as_bytes()), "bad line 1\n");
+    }
 }
+
+/// A line that wraps, up to its HEX.
+const TO_WRAP: &str = "wrap 1024 2 255 3 0 0 0 165 1 16 1 2 3 32 2 0";
 
 /// Of the input 1,048,576 bytes are played; what the limit leaves of a line is
 /// played as it stands.

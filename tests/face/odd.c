@@ -1,13 +1,15 @@
 /*
  * Odd inputs through include/nadrelgos.h: records that are not fit, any frames in the exchange by which a board joins
- * (frames.c), every wrong index (indexes.c), texts and faults of every form (texts.c), counts of records other than
- * forty, event numbers that are none, a setup over whatever stood there, changes and positions that are none. What each
- * call answers and leaves is known: records that were lent are held to it field by field, and all else byte by byte.
- * The calls are the same each time. A line is printed for each check, and the exit status is 1 where one fails.
+ * (frames.c), every wrong index (indexes.c), texts and faults of every form (texts.c), messages inside messages of
+ * every form (inside.c), counts of records other than forty, event numbers that are none, a setup over whatever stood
+ * there, changes and positions that are none. What each call answers and leaves is known: records that were lent are
+ * held to it field by field, and all else byte by byte. The calls are the same each time. A line is printed for each
+ * check, and the exit status is 1 where one fails.
  */
 #include "checks.h"
 #include "frames.h"
 #include "indexes.h"
+#include "inside.h"
 #include "texts.h"
 
 #include <string.h>
@@ -403,5 +405,15 @@ int main(void) {
     writes_every_length();
     writes_into_every_room();
     knows_the_reply();
+    unwraps_every_depth();
+    unwraps_every_length_byte();
+    unwraps_cut_and_lengthened();
+    unwraps_every_type();
+    unwraps_every_subnet();
+    unwraps_damaged();
+    unwraps_any_bytes();
+    wraps_every_depth();
+    wraps_into_every_room();
+    wraps_every_byte();
     return some_failed();
 }

@@ -4,3 +4,4 @@ pub mod Laying
 pub mod RoundTrip
 pub mod ReadyHeader
 pub mod Unique
+pub mod Parts

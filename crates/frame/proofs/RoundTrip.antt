@@ -23,6 +23,15 @@ pub long : (h : Header) (p : List ℕ) → length (frameOf h p) ≡ 12 + length 
 unfolding frameOf
 long h p = simp length-append (omega arith)
 
+-- the header and the payload of a frame stand in it
+pub written-header : (h : Header) (p : List ℕ) → headerOf (frameOf h p) ≡ h
+unfolding frameOf
+written-header h p = refl
+
+pub written-payload : (h : Header) (p : List ℕ) → take (lengthByte (frameOf h p)) (drop 10 (frameOf h p)) ≡ p
+unfolding frameOf
+written-payload h p = take-at p (checkBytes (body h p)) (length p) refl
+
 module _ (h : Header) (p : List ℕ) (small : length p ≤ 240) where
   written-whole : Whole (frameOf h p)
   unfolding frameOf
@@ -36,7 +45,7 @@ module _ (h : Header) (p : List ℕ) (small : length p ≤ 240) where
   -- and as the same payload
   pub reads-back-payload : (ours : ℕ) → takesSubnet ours (h .subnet) ≡ true → payloadOf ours (frameOf h p) ≡ p
   unfolding payloadOf frameOf
-  reads-back-payload ours taken = taken-reads ours (frameOf h p) written-whole (λ r. []) _ taken ∙ take-at p (checkBytes (body h p)) (length p) refl
+  reads-back-payload ours taken = taken-reads ours (frameOf h p) written-whole (λ r. []) _ taken ∙ written-payload h p
 
   -- "Demand 2's round trip reads with the frame's own subnet" (02, C-14)
   pub reads-back-own : (reading (h .subnet) (frameOf h p) ≡ gives (fields h ++ length p ∷ [])) × (payloadOf (h .subnet) (frameOf h p) ≡ p)

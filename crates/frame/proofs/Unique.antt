@@ -20,6 +20,7 @@ use Rattle.frame.proofs.takes_subnet.Reads as takes-subnet
 use Rattle.frame.proofs.read.Reads as read
 use Rattle.frame.proofs.payload.Reads as payload
 use Rattle.frame.proofs.write.Reads as write
+use Rattle.frame.proofs.write_parts.Reads as write-parts
 use Rattle.frame.proofs.prepare.Reads as prepare
 use Rattle.frame.proofs.numbers_of.Reads as numbers
 use Rattle.frame.proofs.write_ready.Reads as write-ready
@@ -49,6 +50,9 @@ one-writing r q p p′ = (same-written r q (p .0 ∙ sym (p′ .0)), p .1 ∙ sy
 
 pub unique-write : (κs : _) (a s t : Header × Lent) (r q : Writing) → write.Post κs a r s → write.Post κs a q t → (r ≡ q) × (now (s .1 .1 .0) ≡ now (t .1 .1 .0))
 unique-write κs a s t r q p p′ = one-writing r q p p′
+
+pub unique-write-parts : (κs : _) (a s t : Header × (RefT (List ℕ) × Lent)) (r q : Writing) → write-parts.Post κs a r s → write-parts.Post κs a q t → (r ≡ q) × (now (s .1 .1 .1 .0) ≡ now (t .1 .1 .1 .0))
+unique-write-parts κs a s t r q p p′ = one-writing r q p p′
 
 pub unique-write-ready : (κs : _) (a s t : Ready × Lent) (r q : Writing) → write-ready.Post κs a r s → write-ready.Post κs a q t → (r ≡ q) × (now (s .1 .1 .0) ≡ now (t .1 .1 .0))
 unique-write-ready κs a s t r q p p′ = one-writing r q p p′

@@ -94,6 +94,10 @@ unfoldable pub settled : List ℕ → List ℕ
 settled b =
     take (10 + lengthByte b) b ++ neverZero (byte b (10 + lengthByte b)) ∷ neverZero (byte b (11 + lengthByte b)) ∷ []
 
+-- the first bytes of a payload that stand in the room already, where a frame's payload begins (house)
+abbrev pub begun : ℕ → List ℕ → List ℕ
+begun m out = take m (drop 10 out)
+
 -- when the writer refuses: 10, then 11 (01, "Order")
 abbrev pub writeRules : List ℕ → ℕ → List (Bool × Refusal)
 writeRules p room = (ltb 240 (length p), PayloadTooLong) ∷ (ltb room (12 + length p), NoRoom) ∷ []

@@ -3,10 +3,10 @@ use fletcher::Sums;
 use refusal::Refusal;
 ghost use mathlib.Core.Path.{_≡_};
 ghost use mathlib.Core.List.{_++_, _∷_, []};
-ghost use Prim.Native.Nat.{_≤_};
+ghost use Prim.Native.Nat.{_-_, _≤_};
 ghost use lib.ListN.{length};
 ghost use Rattle.ground.specs.Bytes.{laid};
-ghost use Rattle.frame.specs.Frame.{fields, headerOf, takesSubnet, told, reading, payloadOf, toldWritten, writing, writtenBytes, writeNumbers};
+ghost use Rattle.frame.specs.Frame.{fields, headerOf, begun, takesSubnet, told, reading, payloadOf, toldWritten, writing, writtenBytes, writeNumbers};
 ghost use Rattle.frame.specs.ReadyHeader.{readyOf, readyBytes, closedBytes};
 
 // The nine bytes before the payload length, in the order of the wire.
@@ -129,21 +129,29 @@ fn head(header: Header, n: u8) -> [u8; 10]
     ]
 }
 
-// Writes a frame at the front of out. The sums over its bytes before `from` are given, so that only those from there on are summed.
-fn written(header: Header, before: Sums, from: usize, payload: &[u8], out: &mut [u8]) -> Writing
-    requires { ⌜ from ≤ 10 ⌝ }
-    ensures { λ r. ⌜ (toldWritten r ≡ writing (now (payload .entry)) (length (now (out .entry)))) × (now (out .exit) ≡ laid (closedBytes header before from (now (payload .entry)) (length (now (out .entry)))) (now (out .entry))) ⌝ }
+// Writes a frame at the front of out. The first m bytes of its payload stand there already, and the sums over its bytes before `from` are given, so
+// that only those from there on are summed.
+fn written(
+    header: Header,
+    before: Sums,
+    from: usize,
+    m: usize,
+    rest: &[u8],
+    out: &mut [u8],
+) -> Writing
+    requires { ⌜ (from ≤ 10) × ((m ≤ 240) × (m ≤ length (now out) - 10)) ⌝ }
+    ensures { λ r. ⌜ (toldWritten r ≡ writing (begun m (now (out .entry)) ++ now (rest .entry)) (length (now (out .entry)))) × (now (out .exit) ≡ laid (closedBytes header before from (begun m (now (out .entry)) ++ now (rest .entry)) (length (now (out .entry)))) (now (out .entry))) ⌝ }
 {
-    let n = payload.len();
-    if 240 < n {
+    if 240 - m < rest.len() {
         return Writing::Refused(Refusal::PayloadTooLong);
     }
+    let n = m + rest.len();
     if out.len() < 12 + n {
         return Writing::Refused(Refusal::NoRoom);
     }
     let front = head(header, n as u8);
     ground::lay(out, 0, &front);
-    ground::lay(out, 10, payload);
+    ground::lay(out, 10 + m, rest);
     let end = 10 + n;
     let check = fletcher::check_after(before, &out[from..end]);
     ground::lay(out, end, &check);
@@ -154,7 +162,25 @@ fn written(header: Header, before: Sums, from: usize, payload: &[u8], out: &mut 
 pub fn write(header: Header, payload: &[u8], out: &mut [u8]) -> Writing
     ensures { λ r. ⌜ (toldWritten r ≡ writing (now (payload .entry)) (length (now (out .entry)))) × (now (out .exit) ≡ laid (writtenBytes header (now (payload .entry)) (length (now (out .entry)))) (now (out .entry))) ⌝ }
 {
-    written(header, fletcher::seed(), 0, payload, out)
+    written(header, fletcher::seed(), 0, 0, payload, out)
+}
+
+// Writes a frame whose payload is these two parts, one after the other, at the front of out: what stands apart need not be brought together first.
+pub fn write_parts(header: Header, front: &[u8], rest: &[u8], out: &mut [u8]) -> Writing
+    ensures { λ r. ⌜ (toldWritten r ≡ writing (now (front .entry) ++ now (rest .entry)) (length (now (out .entry)))) × (now (out .exit) ≡ laid (writtenBytes header (now (front .entry) ++ now (rest .entry)) (length (now (out .entry)))) (now (out .entry))) ⌝ }
+{
+    let m = front.len();
+    if 240 < m {
+        return Writing::Refused(Refusal::PayloadTooLong);
+    }
+    if 240 - m < rest.len() {
+        return Writing::Refused(Refusal::PayloadTooLong);
+    }
+    if out.len() < 12 + m + rest.len() {
+        return Writing::Refused(Refusal::NoRoom);
+    }
+    ground::lay(out, 10, front);
+    written(header, fletcher::seed(), 0, m, rest, out)
 }
 
 // The numbers by which C is told a writing, whichever writer's.
@@ -195,5 +221,5 @@ pub fn write_ready(ready: Ready, payload: &[u8], out: &mut [u8]) -> Writing
         first: ready.first as u32,
         second: ready.second as u32,
     };
-    written(header, kept, 9, payload, out)
+    written(header, kept, 9, 0, payload, out)
 }

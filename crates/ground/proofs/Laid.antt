@@ -30,7 +30,7 @@ pub laid-length : (a o : List ℕ) → length a ≤ length o → length (laid a 
 laid-length a o h = length-append a (drop (length a) o) ∙ rw (length-drop (length a) o) (omega arith)
 
 -- where all of the bytes fit, all are laid
-all-fit : (bytes at room : ℕ) → at + bytes ≤ room → fitting bytes at room ≡ bytes
+pub all-fit : (bytes at room : ℕ) → at + bytes ≤ room → fitting bytes at room ≡ bytes
 unfolding fitting
 all-fit bytes at room h = omega arith
 

@@ -2,10 +2,10 @@
 use Prim.Native.Nat.{ℕ, zero, suc, _+_, _-_, _≤_, _<_}
 use native.Mathlib.Omega.{arith}
 use native.Mathlib.Numerals.{add-one}
-use mathlib.Core.Path.{_≡_, refl, ap, _∙_}
-use mathlib.Core.List.{List, _∷_, map}
+use mathlib.Core.Path.{_≡_, refl, sym, ap, _∙_}
+use mathlib.Core.List.{List, _∷_, _++_, map}
 use lib.ListN.{length, getD, take, drop, length-drop, replicate}
-use lib.Seq.{take-all, drop-cons}
+use lib.Seq.{take-all, take-add, drop-cons, drop-at, length-take-le}
 use Rattle.ground.specs.Below.{upFrom}
 
 pub run-length : (a n : ℕ) → length (upFrom a n) ≡ n
@@ -28,6 +28,10 @@ run-map-at f a (suc n) (suc i) d h = run-map-at f (a + 1) n i d (omega arith) �
 -- the part from a place to the end, as code cuts it, is all that comes after that place
 pub rest-is : (l : List ℕ) (a : ℕ) → take (length l - a) (drop a l) ≡ drop a l
 rest-is l a = take-all (length l - a) (drop a l) (simp length-drop (omega arith))
+
+-- where a list begins with one run and then another, the second is the part behind the first
+pub part-behind : (l a p : List ℕ) (k n : ℕ) → k + n ≤ length l → take (k + n) l ≡ a ++ p → length a ≡ k → take n (drop k l) ≡ p
+part-behind l a p k n h e m = sym (drop-at (take k l) (take n (drop k l)) k (length-take-le k l (omega arith))) ∙ ap (drop k) (sym (take-add k n l) ∙ e) ∙ drop-at a p k m
 
 -- a part of a list, read number by number
 pub run-read : (l : List ℕ) (a n : ℕ) → a + n ≤ length l → take n (drop a l) ≡ map (λ i. getD l i 0) (upFrom a n)

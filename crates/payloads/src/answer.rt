@@ -1,4 +1,5 @@
 // What is written for a line.
+use encapsulation::Level;
 use frame::Writing;
 use libc::STDOUT_FILENO;
 use refusal::Refusal;
@@ -53,6 +54,34 @@ pub(crate) fn diagnostics(kind: u8, major: u8, minor: u8, text: &[u8]) {
     write_spaced(major as u64);
     write_spaced(minor as u64);
     write_counted(text);
+}
+
+// A level's five numbers.
+fn level(level: Level) {
+    write_spaced(level.code as u64);
+    write_spaced(level.operand1 as u64);
+    write_spaced(level.operand2 as u64);
+    write_spaced(level.operand3 as u64);
+    write_spaced(level.packet as u64);
+}
+
+// plain DEPTH, the levels, TYPE PACKET; its payload follows.
+pub(crate) fn plain(depth: usize, levels: [Level; 4], message: u8, packet: u8) {
+    write(b"plain");
+    write_spaced(depth as u64);
+    let n = ground::least(depth, encapsulation::MOST);
+    let mut i: usize = 0;
+    while i < n {
+        level(levels[i]);
+        i += 1;
+    }
+    write_spaced(message as u64);
+    write_spaced(packet as u64);
+}
+
+// COUNT HEX, at the end of a line.
+pub(crate) fn payload(bytes: &[u8]) {
+    write_counted(bytes);
 }
 
 // wrote COUNT HEX: the bytes at the front of out.

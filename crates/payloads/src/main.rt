@@ -1,11 +1,15 @@
-// Plays payloads that are read and written, a line at a time, and answers each line (docs/PAYLOADS.md has the lines).
+// Plays payloads and messages inside messages that are read and written, a line at a time, and answers each line (docs/PAYLOADS.md has the lines).
 mod answer;
+mod levels;
 mod order;
 
 use display::Diagnostics;
 use display::Display;
+use encapsulation::Inside;
+use frame::Writing;
 use libc::STDIN_FILENO;
 use order::Order;
+use order::Written;
 
 // read-display, answered.
 fn read_display(payload: &[u8]) {
@@ -30,15 +34,43 @@ fn read_diagnostics(payload: &[u8]) {
     }
 }
 
-// write-display, answered.
-fn write_display(kind: u8, text: &[u8], out: &mut [u8]) {
-    let writing = display::write_display(kind, text, out);
-    answer::written(writing, out);
+// unwrap, answered.
+fn unwrap(subnet: u8, frame: &[u8]) {
+    let found = encapsulation::unwrap(subnet, frame);
+    let inside = found.inside;
+    let levels = found.levels;
+    match inside {
+        Inside::Plain {
+            depth,
+            message,
+            packet,
+            length: _,
+        } => {
+            answer::plain(depth, levels, message, packet);
+            answer::payload(encapsulation::inner_payload(subnet, frame));
+        }
+        Inside::Refused(refusal) => answer::refused(refusal),
+    }
 }
 
-// write-diagnostics, answered.
-fn write_diagnostics(kind: u8, major: u8, minor: u8, text: &[u8], out: &mut [u8]) {
-    let writing = display::write_diagnostics(kind, major, minor, text, out);
+// Writes into out what a line wants written of these bytes.
+fn writing_of(what: Written, line: &[u8], bytes: &[u8], out: &mut [u8]) -> Writing {
+    match what {
+        Written::Display { kind } => display::write_display(kind, bytes, out),
+        Written::Diagnostics { kind, major, minor } => {
+            display::write_diagnostics(kind, major, minor, bytes, out)
+        }
+        Written::Wrap {
+            header,
+            depth,
+            levels,
+        } => encapsulation::wrap(header, levels::levels_at(line, levels), depth, bytes, out),
+    }
+}
+
+// The same, answered.
+fn write(what: Written, line: &[u8], bytes: &[u8], out: &mut [u8]) {
+    let writing = writing_of(what, line, bytes, out);
     answer::written(writing, out);
 }
 
@@ -52,27 +84,19 @@ fn play_line(line: &[u8], number: u64) {
             let n = script::within(count, &bytes);
             read_display(&bytes[..n]);
         }
-        Order::WriteDisplay { room, kind, count } => {
-            let n = script::within(count, &bytes);
-            let mut out = [0u8; 1024];
-            let m = script::within(room, &out);
-            write_display(kind, &bytes[..n], &mut out[..m]);
-        }
         Order::ReadDiagnostics { count } => {
             let n = script::within(count, &bytes);
             read_diagnostics(&bytes[..n]);
         }
-        Order::WriteDiagnostics {
-            room,
-            kind,
-            major,
-            minor,
-            count,
-        } => {
+        Order::Unwrap { subnet, count } => {
+            let n = script::within(count, &bytes);
+            unwrap(subnet, &bytes[..n]);
+        }
+        Order::Write { room, count, what } => {
             let n = script::within(count, &bytes);
             let mut out = [0u8; 1024];
             let m = script::within(room, &out);
-            write_diagnostics(kind, major, minor, &bytes[..n], &mut out[..m]);
+            write(what, line, &bytes[..n], &mut out[..m]);
         }
         Order::Bad => answer::bad(number),
     }

@@ -1,27 +1,42 @@
 // What a line asks for, read off its words before anything is played.
+use frame::Header;
 
-// What a line asks for; the payload or the text stands in the bytes beside it, as many as it says.
+// What a line asks for; the payload, the text or the frame stands in the bytes beside it, as many as it says.
 pub(crate) enum Order {
     Pass,
     ReadDisplay {
         count: usize,
     },
-    WriteDisplay {
-        room: usize,
-        kind: u8,
-        count: usize,
-    },
     ReadDiagnostics {
         count: usize,
     },
-    WriteDiagnostics {
+    Unwrap {
+        subnet: u8,
+        count: usize,
+    },
+    Write {
         room: usize,
+        count: usize,
+        what: Written,
+    },
+    Bad,
+}
+
+// What is to be written. The levels of what is wrapped stand in the line, from a place on: an enum that holds an array is refused a proof.
+pub(crate) enum Written {
+    Display {
+        kind: u8,
+    },
+    Diagnostics {
         kind: u8,
         major: u8,
         minor: u8,
-        count: usize,
     },
-    Bad,
+    Wrap {
+        header: Header,
+        depth: usize,
+        levels: usize,
+    },
 }
 
 // read-display HEX
@@ -54,10 +69,12 @@ fn write_display(line: &[u8], bytes: &mut [u8]) -> Order {
     let kind = script::field_at(line, room.next, 255);
     let text = script::bytes_from(line, kind.next, bytes);
     if room.ok & kind.ok & text.ok {
-        Order::WriteDisplay {
+        Order::Write {
             room: room.value as usize,
-            kind: script::byte(kind.value),
             count: text.value,
+            what: Written::Display {
+                kind: script::byte(kind.value),
+            },
         }
     } else {
         Order::Bad
@@ -72,12 +89,88 @@ fn write_diagnostics(line: &[u8], bytes: &mut [u8]) -> Order {
     let minor = script::field_at(line, major.next, 255);
     let text = script::bytes_from(line, minor.next, bytes);
     if room.ok & kind.ok & major.ok & minor.ok & text.ok {
-        Order::WriteDiagnostics {
+        Order::Write {
             room: room.value as usize,
-            kind: script::byte(kind.value),
-            major: script::byte(major.value),
-            minor: script::byte(minor.value),
             count: text.value,
+            what: Written::Diagnostics {
+                kind: script::byte(kind.value),
+                major: script::byte(major.value),
+                minor: script::byte(minor.value),
+            },
+        }
+    } else {
+        Order::Bad
+    }
+}
+
+// unwrap SUBNET HEX
+fn unwrap(line: &[u8], bytes: &mut [u8]) -> Order {
+    let subnet = script::field_at(line, 7, 255);
+    let frame = script::bytes_from(line, subnet.next, bytes);
+    if subnet.ok & frame.ok {
+        Order::Unwrap {
+            subnet: script::byte(subnet.value),
+            count: frame.value,
+        }
+    } else {
+        Order::Bad
+    }
+}
+
+// The header of a line that wraps, still without type and packet number, where the next word begins, and whether its fields are bytes.
+struct Routed {
+    header: Header,
+    next: usize,
+    ok: bool,
+}
+
+// DESTINATION SOURCE SUBNET METHOD PARAMETER PARAMETER KIND
+fn header_at(line: &[u8], at: usize) -> Routed {
+    let destination = script::field_at(line, at, 255);
+    let source = script::field_at(line, destination.next, 255);
+    let subnet = script::field_at(line, source.next, 255);
+    let method = script::field_at(line, subnet.next, 255);
+    let first = script::field_at(line, method.next, 255);
+    let second = script::field_at(line, first.next, 255);
+    let kind = script::field_at(line, second.next, 255);
+    Routed {
+        header: Header {
+            destination: script::byte(destination.value),
+            source: script::byte(source.value),
+            subnet: script::byte(subnet.value),
+            method: script::byte(method.value),
+            parameter1: script::byte(first.value),
+            parameter2: script::byte(second.value),
+            kind: script::byte(kind.value),
+            message: 0,
+            packet: 0,
+        },
+        next: kind.next,
+        ok: destination.ok & source.ok & subnet.ok & method.ok & first.ok & second.ok & kind.ok,
+    }
+}
+
+// wrap ROOM, a header, DEPTH, so many levels, then TYPE PACKET HEX
+fn wrap(line: &[u8], bytes: &mut [u8]) -> Order {
+    let room = script::field_at(line, 5, 1024);
+    let routed = header_at(line, room.next);
+    let depth = script::field_at(line, routed.next, script::ANY);
+    let levels = crate::levels::behind_levels(line, depth.next, depth.value as usize);
+    let message = script::field_at(line, levels.next, 255);
+    let packet = script::field_at(line, message.next, 255);
+    let payload = script::bytes_from(line, packet.next, bytes);
+    if room.ok & routed.ok & depth.ok & levels.ok & message.ok & packet.ok & payload.ok {
+        let mut header = routed.header;
+        header.message = script::byte(message.value);
+        header.packet = script::byte(packet.value);
+        Order::Write {
+            room: room.value as usize,
+            count: payload.value,
+            what: Written::Wrap {
+                header: header,
+                depth: depth.value as usize,
+                levels: depth.next,
+            },
         }
     } else {
         Order::Bad
@@ -98,6 +191,12 @@ fn read_words(line: &[u8], bytes: &mut [u8]) -> Order {
     }
     if script::same(word, b"write-diagnostics") {
         return write_diagnostics(line, bytes);
+    }
+    if script::same(word, b"unwrap") {
+        return unwrap(line, bytes);
+    }
+    if script::same(word, b"wrap") {
+        return wrap(line, bytes);
     }
     Order::Bad
 }

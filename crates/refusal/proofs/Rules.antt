@@ -2,7 +2,7 @@
 use Prim.Native.Nat.{ℕ}
 use mathlib.Core.Path.{_≡_, refl, sym, ap, _∙_}
 use mathlib.Core.Logic.{_↔_}
-use mathlib.Core.Bool.{Bool, true, false}
+use mathlib.Core.Bool.{Bool, true, false, false≢true}
 use mathlib.Core.List.{List, [], _∷_, _++_}
 use Rattle.ground.specs.Choose.{choose}
 use Rattle.refusal.specs.Refusal.{refuses, gives, ruled, Told}
@@ -30,6 +30,16 @@ pub passed {ℓ} : {A : Type ℓ} (rules : List (Bool × Refusal)) (f : Refusal 
 unfolding choose
 passed [] f v h = refl
 passed (rule ∷ rules) f v h = rw (h .0) (passed rules f v (h .1))
+
+-- whether none holds can be told
+pub whether : (rules : List (Bool × Refusal)) → Dec (Passed rules)
+whether [] = yes tt
+whether (rule ∷ rules) = go (rule .0) refl (whether rules)
+  where
+    go : (b : Bool) → rule .0 ≡ b → Dec (Passed rules) → Dec (Passed (rule ∷ rules))
+    go true e rest = no (λ p. false≢true (sym (p .0) ∙ e))
+    go false e (yes p) = yes (e, p)
+    go false e (no h) = no (λ p. h (p .1))
 
 -- where some rule holds, what stands behind them does not matter
 pub stopped {ℓ} : {A : Type ℓ} (rules more : List (Bool × Refusal)) (f : Refusal → A) (v u : A) → (Passed rules → ⊥) → ruled (rules ++ more) f v ≡ ruled rules f u

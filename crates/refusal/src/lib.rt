@@ -1,4 +1,4 @@
-// The numbers by which the panel refuses. A refusal is a case; the rule book's number is `number`. 17 is retired, and 25 to 31 are none's yet.
+// The numbers by which the panel refuses. A refusal is a case; the rule book's number is `number`. 17 is retired, and 25 to 29 are none's yet.
 ghost use mathlib.Core.Path.{_≡_};
 ghost use Rattle.refusal.specs.Refusal.{numberOf};
 
@@ -49,6 +49,10 @@ pub enum Refusal {
     NotDiscovering,
     // 24: a good frame whose subnet is neither ours nor 0
     OtherSubnet,
+    // 30: an encapsulation whose payload is not code, operands and one whole message
+    BadInner,
+    // 31: an encapsulation inside four others; more than four levels to be written
+    TooDeep,
     // 32: a payload without its fixed bytes, or a text of another length than its length byte says, or longer than its message may have
     BadTextLength,
     // 33: a text byte outside 0x20 to 0x7E
@@ -83,6 +87,8 @@ pub fn number(refusal: Refusal) -> u8
         Refusal::StateUnfit => 22,
         Refusal::NotDiscovering => 23,
         Refusal::OtherSubnet => 24,
+        Refusal::BadInner => 30,
+        Refusal::TooDeep => 31,
         Refusal::BadTextLength => 32,
         Refusal::BadText => 33,
     }

@@ -1,4 +1,5 @@
-//! Plays readers and writers of payloads from the lines on standard input (C-22).
+//! Plays readers and writers of payloads from the lines on standard input (C-21 and
+//! C-22).
 
 use reference::{language, payloads};
 use std::io;

@@ -1,11 +1,15 @@
 //! What the scripts for `payloads` have to reach, all of them together.
 
+use super::required_nests;
 use super::texts::{case, holding, relation, room_row, row};
 use super::texts::{PLACES, READ_FAULTS, WRITE_FAULTS};
+use super::unwraps::UNWRAP;
+use super::wraps::WRAP;
 use crate::forms::{is_good, Form, DIAGNOSTICS, FORMS};
 use crate::frame::MAX_PAYLOAD;
-use crate::payload_scripts::{Oddity, OF_HEX, OF_LINES, OF_NUMBERS};
+use crate::payload_scripts::{Oddity, OF_HEX, OF_LEVELS, OF_LINES, OF_NUMBERS};
 use crate::payload_scripts::{CUT, ENDS_AT_LIMIT, FEED_AT_LIMIT, OPEN_END};
+use crate::payload_scripts::{DEPTH, HEADER_FIELDS, INSIDE_FIELDS, LEVEL_FIELDS};
 use crate::rows::Row;
 
 fn texts(names: &[&str]) -> Vec<String> {
@@ -16,8 +20,17 @@ pub fn answers() -> Vec<String> {
     texts(&[
         "display",
         "diagnostics",
+        "plain",
         "wrote",
+        "refuse 1",
+        "refuse 2",
+        "refuse 3",
+        "refuse 4",
+        "refuse 10",
         "refuse 11",
+        "refuse 24",
+        "refuse 30",
+        "refuse 31",
         "refuse 32",
         "refuse 33",
         "bad line",
@@ -34,8 +47,9 @@ pub fn cases() -> Vec<String> {
         cases.push(format!("{name}: display"));
     }
     for form in FORMS {
-        cases.extend(oddities(form.reader, &[], form.taken));
-        cases.extend(oddities(form.writer, form.fields, "wrote"));
+        let fields = [&["ROOM"], form.fields].concat();
+        cases.extend(oddities(form.reader, &[], form.taken, "refuse 32"));
+        cases.extend(oddities(form.writer, &fields, "wrote", "refuse 32"));
         cases.extend(faults(form));
         cases.push(format!("{}, a payload of 1,024 bytes: refuse 32", form.reader));
         cases.push(format!("{}, a text of 1,024 bytes: refuse 32", form.writer));
@@ -47,31 +61,36 @@ pub fn cases() -> Vec<String> {
     cases.push("read-diagnostics, written by write-display: refuse 32".to_string());
     cases.push("read-display, written by write-diagnostics: refuse 32".to_string());
     cases.push("read-display, written by write-diagnostics: refuse 33".to_string());
+    cases.extend(oddities(UNWRAP, &["SUBNET"], "plain", "refuse 3"));
+    let fields = [&["ROOM"], &HEADER_FIELDS[..], &[DEPTH], &LEVEL_FIELDS, &INSIDE_FIELDS];
+    cases.extend(oddities(WRAP, &fields.concat(), "wrote", "refuse 10"));
+    cases.extend(OF_LEVELS.iter().map(|odd| odd_case(*odd, WRAP, "", "")));
+    cases.extend(required_nests::cases());
     cases
 }
 
 /// Every way to spell a line otherwise, in this line, with the answer to those
-/// that are good.
-fn oddities(line: &str, fields: &[&str], taken: &str) -> Vec<String> {
+/// that are good and to those with the most bytes.
+fn oddities(line: &str, fields: &[&str], taken: &str, most: &str) -> Vec<String> {
     let mut cases = Vec::new();
     let mut all = OF_LINES.to_vec();
     all.extend(OF_HEX);
     all.push(Oddity::OtherName);
     if !fields.is_empty() {
         all.push(Oddity::MissingWords);
-        for field in [&["ROOM"], fields].concat() {
+        for field in fields {
             let place = format!("{line}, {field}");
-            cases.extend(OF_NUMBERS.iter().map(|odd| odd_case(*odd, &place, taken)));
+            cases.extend(OF_NUMBERS.iter().map(|odd| odd_case(*odd, &place, taken, most)));
         }
     }
-    cases.extend(all.into_iter().map(|odd| odd_case(odd, line, taken)));
+    cases.extend(all.into_iter().map(|odd| odd_case(odd, line, taken, most)));
     cases
 }
 
-fn odd_case(oddity: Oddity, place: &str, taken: &str) -> String {
+fn odd_case(oddity: Oddity, place: &str, taken: &str, most: &str) -> String {
     let answer = match oddity {
         _ if oddity.is_bad() => "bad line",
-        Oddity::MostBytes => "refuse 32",
+        Oddity::MostBytes => most,
         _ => taken,
     };
     format!("{}: {answer}", oddity.named(place))
@@ -119,6 +138,7 @@ pub fn rows() -> Vec<Row> {
         rows.extend(rooms(form));
         rows.extend(bytes(form, form.writer, "wrote"));
     }
+    rows.extend(required_nests::rows());
     rows
 }
 

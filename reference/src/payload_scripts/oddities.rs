@@ -1,8 +1,8 @@
 //! Lines that are spelled otherwise than they should be, and lines that may be
 //! spelled so.
 
-use super::words::{spelled, Line, Word};
-use crate::language::{hex, HEX_LIMIT};
+use super::words::{spelled, Line, Word, DEPTH};
+use crate::language::{byte, hex, HEX_LIMIT};
 use crate::prng::Prng;
 
 /// What is odd about a line. All but the last four make it a bad one.
@@ -22,6 +22,10 @@ pub enum Oddity {
     TooManyBytes,
     NoCharacter,
     OtherName,
+    LevelMissing,
+    LevelTooMany,
+    NumberMissing,
+    NumberTooMany,
     MostBytes,
     LeadingZeros,
     LowerCase,
@@ -38,7 +42,10 @@ pub const OF_HEX: [Oddity; 6] = [OddDigits, NoDigit, TooManyBytes, MostBytes, Lo
 /// Those of its numbers, by field.
 pub const OF_NUMBERS: [Oddity; 3] = [AboveField, NoNumber, LeadingZeros];
 
-const ALL: [Oddity; 18] = [
+/// Those of a line that has levels.
+pub const OF_LEVELS: [Oddity; 4] = [LevelMissing, LevelTooMany, NumberMissing, NumberTooMany];
+
+const ALL: [Oddity; 22] = [
     AboveField,
     NoNumber,
     MissingWords,
@@ -53,6 +60,10 @@ const ALL: [Oddity; 18] = [
     TooManyBytes,
     NoCharacter,
     OtherName,
+    LevelMissing,
+    LevelTooMany,
+    NumberMissing,
+    NumberTooMany,
     MostBytes,
     LeadingZeros,
     LowerCase,
@@ -72,9 +83,11 @@ const BLANKS: [&str; 6] = ["\t", "\0", "\x0B", "\x0C", "\u{A0}", "\r"];
 const NO_CHARACTERS: [&[u8]; 6] =
     [b"\x80", b"\xFF", b"\xC3", b"\xC3\xA9", b"\xEF\xBB\xBF", b"\xA0"];
 /// Names that are none here, among them those of the answers and of `replay`.
-const OTHER_NAMES: [&str; 10] = [
+const OTHER_NAMES: [&str; 12] = [
     "display",
     "diagnostics",
+    "plain",
+    "un-wrap",
     "wrote",
     "refuse",
     "read",
@@ -102,6 +115,10 @@ impl Oddity {
             TooManyBytes => "over 1,024 bytes of HEX",
             NoCharacter => "a byte above 0x7F",
             OtherName => "a name that is none",
+            LevelMissing => "a level is missing",
+            LevelTooMany => "a level too many",
+            NumberMissing => "a number is missing",
+            NumberTooMany => "a number too many",
             MostBytes => "1,024 bytes of HEX",
             LeadingZeros => "leading zeros",
             LowerCase => "HEX in lower case",
@@ -130,6 +147,7 @@ pub fn odd_line(rng: &mut Prng, words: &[Word]) -> Line {
     let odd = match oddity {
         _ if OF_NUMBERS.contains(&oddity) => return odd_number(rng, oddity, name, words),
         _ if OF_HEX.contains(&oddity) => odd_hex(rng, oddity, words),
+        _ if OF_LEVELS.contains(&oddity) => odd_levels(rng, oddity, words),
         MissingWords => cut_words(rng, words),
         OtherName => Some(other_name(rng, name, words)),
         _ => odd_text(rng, oddity, words),
@@ -166,10 +184,11 @@ fn odd_number(rng: &mut Prng, oddity: Oddity, name: &str, words: &[Word]) -> Lin
 
 /// Just above the field, or a number that would be in it if its high bits were
 /// lost.
-fn above(rng: &mut Prng, value: usize, most: usize) -> String {
-    let (value, most) = (value as u128, most as u128);
+fn above(rng: &mut Prng, value: u64, most: u64) -> String {
+    let (value, most) = (u128::from(value), u128::from(most));
     let lost = [8, 16, 32, 63, 64, 72, 100].map(|bits| value + most + 1 + (1 << bits));
-    let low = [most + 1, most + 2, most + 1 + value, value + (1 << 16), value + (1 << 64)];
+    let beyond = (value + (1 << 16)).max(most + 1);
+    let low = [most + 1, most + 2, most + 1 + value, beyond, value + (1 << 64)];
     match rng.below(8) {
         0 => "9".repeat(rng.pick(&[20, 21, 40, 400])),
         1..=3 => rng.pick(&lost).to_string(),
@@ -237,13 +256,80 @@ fn cut_words(rng: &mut Prng, words: &[Word]) -> Option<Vec<u8>> {
     (numbers > 0).then(|| spelled(&words[..keep]).join(" ").into_bytes())
 }
 
+/// Where among the words DEPTH stands, and what it says, if the line has levels.
+fn depth_of(words: &[Word]) -> Option<(usize, u64)> {
+    words.iter().enumerate().find_map(|(at, word)| match word {
+        Word::Number { field, value, .. } if *field == DEPTH => Some((at, *value)),
+        _ => None,
+    })
+}
+
+/// Levels and DEPTH do not agree, or a number is missing or too many.
+fn odd_levels(rng: &mut Prng, oddity: Oddity, words: &[Word]) -> Option<Vec<u8>> {
+    let (at, depth) = depth_of(words)?;
+    let mut texts = spelled(words);
+    match oddity {
+        LevelMissing => lack_level(rng, &mut texts, at, depth),
+        LevelTooMany => add_level(rng, &mut texts, at, depth),
+        _ => shift_numbers(rng, oddity, words, &mut texts)?,
+    }
+    Some(texts.join(" ").into_bytes())
+}
+
+/// A level is left out, or DEPTH is higher: by one, by what high bits hold, or so
+/// that its five numbers a level are more than sixty-four bits hold.
+fn lack_level(rng: &mut Prng, texts: &mut Vec<String>, at: usize, depth: u64) {
+    if depth > 0 && rng.chance(50) {
+        let level = at + 1 + 5 * rng.below(depth as usize);
+        texts.drain(level..level + 5);
+        return;
+    }
+    let more = [1, 1, 1 << 8, 1 << 16, 1 << 32, 1 << 63, u64::MAX / 5 + 1, u64::MAX - depth];
+    texts[at] = (depth + rng.pick(&more)).to_string();
+}
+
+/// DEPTH is lower by one, or there is a level more than it says.
+fn add_level(rng: &mut Prng, texts: &mut Vec<String>, at: usize, depth: u64) {
+    if depth > 0 && rng.chance(50) {
+        texts[at] = (depth - 1).to_string();
+        return;
+    }
+    let level = ["1", "2", "3", "4", "5"].map(String::from);
+    texts.splice(at + 1..at + 1, level);
+}
+
+/// All numbers from some place on stand one place off. That is only odd if there is
+/// a HEX that a number too many does not stand for, and if this HEX does not stand
+/// for the number that is missing.
+fn shift_numbers(
+    rng: &mut Prng,
+    oddity: Oddity,
+    words: &[Word],
+    texts: &mut Vec<String>,
+) -> Option<()> {
+    let numbers = words.iter().filter(|word| is_number(word)).count();
+    let place = rng.between(1, numbers);
+    let digits = texts.get(numbers + 1).map(String::as_str);
+    match oddity {
+        NumberTooMany => {
+            digits?;
+            texts.insert(place, rng.byte().to_string());
+        }
+        _ if digits.and_then(byte).is_some() => return None,
+        _ => {
+            texts.remove(place);
+        }
+    }
+    Some(())
+}
+
 fn other_name(rng: &mut Prng, name: &str, words: &[Word]) -> Vec<u8> {
     let other = match rng.below(8) {
         0 => name.to_uppercase(),
         1 => name[..name.len() - 1].to_string(),
-        2 => format!("{name}s"),
-        3 => name.replace('-', "_"),
-        4 => name.replace('-', " "),
+        3 if name.contains('-') => name.replace('-', "_"),
+        4 if name.contains('-') => name.replace('-', " "),
+        2..=4 => format!("{name}s"),
         5 => name[1..].to_string(),
         _ => rng.pick(&OTHER_NAMES).to_string(),
     };
@@ -279,14 +365,32 @@ mod tests {
     use super::*;
     use crate::payloads::play_all;
 
-    fn lines() -> [Vec<Word>; 4] {
+    fn lines() -> Vec<Vec<Word>> {
         let (hex, none) = (Word::Hex(vec![0x5A, 0x00]), Word::Hex(Vec::new()));
-        [
+        let mut lines = vec![
             vec![Word::Name("read-display"), hex.clone()],
             vec![Word::Name("read-diagnostics"), none.clone()],
-            vec![Word::Name("write-display"), Word::room(64), Word::byte("TYPE", 5), hex],
-            vec![Word::Name("write-display"), Word::room(64), Word::byte("TYPE", 5), none],
-        ]
+            vec![Word::Name("write-display"), Word::room(64), Word::byte("TYPE", 5), hex.clone()],
+            vec![Word::Name("write-display"), Word::room(64), Word::byte("TYPE", 5), none.clone()],
+            vec![Word::Name("unwrap"), Word::byte("SUBNET", 5), hex.clone()],
+            vec![Word::Name("unwrap"), Word::byte("SUBNET", 5), none.clone()],
+        ];
+        // such HEX as could be a number, too
+        for hex in [hex, none, Word::Hex(vec![0x00, 0x12]), Word::Hex(vec![0x12])] {
+            lines.extend((0..=6).map(|depth| wrap(depth, hex.clone())));
+        }
+        lines
+    }
+
+    /// Of the numbers before DEPTH many are what a depth could be.
+    fn wrap(depth: usize, hex: Word) -> Vec<Word> {
+        let bytes = |count: usize| (0..count).map(|value| Word::byte("", value as u8 % 7));
+        let mut words = vec![Word::Name("wrap"), Word::room(64)];
+        words.extend(bytes(7));
+        words.push(Word::depth(depth));
+        words.extend(bytes(5 * depth + 2));
+        words.push(hex);
+        words
     }
 
     #[test]

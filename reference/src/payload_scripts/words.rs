@@ -2,14 +2,17 @@
 
 use crate::language::{hex, ROOM_LIMIT};
 
+/// The field that says how many levels follow it.
+pub const DEPTH: &str = "DEPTH";
+
 #[derive(Clone, Debug, PartialEq, Eq)]
 pub enum Word {
     Name(&'static str),
     /// A number in a field that goes up to `most`.
     Number {
         field: &'static str,
-        value: usize,
-        most: usize,
+        value: u64,
+        most: u64,
     },
     Hex(Vec<u8>),
 }
@@ -21,7 +24,12 @@ impl Word {
     }
 
     pub fn room(value: usize) -> Word {
-        Word::Number { field: "ROOM", value, most: ROOM_LIMIT as usize }
+        Word::Number { field: "ROOM", value: value as u64, most: ROOM_LIMIT }
+    }
+
+    /// How many levels follow.
+    pub fn depth(value: usize) -> Word {
+        Word::Number { field: DEPTH, value: value as u64, most: u64::MAX }
     }
 
     fn spelled(&self) -> Option<String> {

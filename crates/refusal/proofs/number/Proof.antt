@@ -79,6 +79,12 @@ enum-told-24 c = search needs
 enum-told-25 : tie.Need-enum-told-25
 enum-told-25 c = search needs
 
+enum-told-26 : tie.Need-enum-told-26
+enum-told-26 c = search needs
+
+enum-told-27 : tie.Need-enum-told-27
+enum-told-27 c = search needs
+
 returns : tie.Need-returns
 returns c = rw (c .enum-told .given .1) refl
 
@@ -154,6 +160,12 @@ returns-24 c = rw (c .enum-told24 .given .1) refl
 returns-25 : tie.Need-returns-25
 returns-25 c = rw (c .enum-told25 .given .1) refl
 
+returns-26 : tie.Need-returns-26
+returns-26 c = rw (c .enum-told26 .given .1) refl
+
+returns-27 : tie.Need-returns-27
+returns-27 c = rw (c .enum-told27 .given .1) refl
+
 pub number-spec : {M : Type 1} → statement M
 number-spec =
     tie.close
@@ -183,6 +195,8 @@ number-spec =
     enum-told-23
     enum-told-24
     enum-told-25
+    enum-told-26
+    enum-told-27
     returns
     returns-2
     returns-3
@@ -207,4 +221,6 @@ number-spec =
     returns-22
     returns-23
     returns-24
-    returns-25)
+    returns-25
+    returns-26
+    returns-27)

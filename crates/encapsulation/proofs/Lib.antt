@@ -1,0 +1,12 @@
+pub mod Laws
+pub mod Answers
+pub mod Received
+pub mod Heads
+pub mod Exactly
+pub mod Positions
+pub mod Fronts
+pub mod Writing
+pub mod RoundTrip
+pub mod Refusals
+pub mod Faces
+pub mod Unique

@@ -1,0 +1,5 @@
+pub mod Message
+pub mod Unwrap
+pub mod Wrap
+pub mod Answer
+pub mod Making
