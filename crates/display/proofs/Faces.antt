@@ -1,18 +1,18 @@
 -- What C is told points at the text: the part of the payload that the numbers name is the text that is handed back, and lies in the payload.
-use Prim.Native.Nat.{ℕ, _+_, _≤_}
+use Prim.Native.Nat.{ℕ, _+_}
 use native.Mathlib.Omega.{arith}
 use mathlib.Core.Path.{_≡_, refl, subst}
 use mathlib.Core.List.{List, []}
-use lib.ListN.{length, getD, take, drop, length-drop}
+use lib.ListN.{length, getD, take, length-drop}
 use lib.Seq.{take-all, getD-take}
 use lib.Dec.{eqb}
 use borrow.Author.Tests.{ne-eqb}
 use Rattle.ground.specs.Choose.{choose}
+use Rattle.ground.specs.Bytes.{Names}
 use Rattle.refusal.specs.Refusal.{Told, value, refuses, gives, ruled}
 use Rattle.refusal.specs.declared.Refusal.{Refusal}
 use Rattle.refusal.proofs.Numbers.{not-zero}
 use Rattle.refusal.proofs.Rules.{Passed, ruled-through, each, by-rules}
-use Rattle.display.specs.declared.TextNumbers.{TextNumbers}
 use Rattle.display.specs.Text.{innerLength, behind, readTextRules, readText, textOf}
 use Rattle.display.specs.Messages.{displayMost, readDisplay, displayText, diagnosticsMost, readDiagnostics, diagnosticsText}
 use Rattle.display.specs.Numbers.{displayNumbers, diagnosticsNumbers}
@@ -25,7 +25,7 @@ module _ (own most : ℕ) (p : List ℕ) where
 
   -- the part that an answer points at, in the payload, is this text
   abbrev Points : Told → List ℕ → Type 0
-  Points t text = (begin t + value t own ≤ length p) × (take (value t own) (drop (begin t) p) ≡ text)
+  Points t text = Names (begin t) (value t own) p text
 
   refused-points : (r : Refusal) → Points (refuses r) []
   unfolding choose
@@ -51,14 +51,11 @@ module _ (own most : ℕ) (p : List ℕ) where
       subst (λ (t : Told). Points t (textOf own most p)) (ruled-through (λ (x : Told × List ℕ). x .0) (readTextRules own most p) f v)
       (subst (λ (l : List ℕ). Points (ruled (readTextRules own most p) f v .0) l) (ruled-through (λ (x : Told × List ℕ). x .1) (readTextRules own most p) f v) both)
 
--- the numbers of a face name a part of the payload, and it is this text
-abbrev pub Names : TextNumbers → List ℕ → List ℕ → Type 0
-Names n p text = (n .start + n .length ≤ length p) × (take (n .length) (drop (n .start) p) ≡ text)
-
-pub display-named : (p : List ℕ) → Names (displayNumbers (readDisplay p)) p (displayText p)
+-- the numbers of a face name the text, a part of the payload
+pub display-named : (p : List ℕ) → let told = displayNumbers (readDisplay p) in Names (told .start) (told .length) p (displayText p)
 unfolding displayNumbers
 display-named p = points 1 displayMost p
 
-pub diagnostics-named : (p : List ℕ) → Names (diagnosticsNumbers (readDiagnostics p)) p (diagnosticsText p)
+pub diagnostics-named : (p : List ℕ) → let told = diagnosticsNumbers (readDiagnostics p) in Names (told .start) (told .length) p (diagnosticsText p)
 unfolding diagnosticsNumbers
 diagnostics-named p = points 3 diagnosticsMost p
