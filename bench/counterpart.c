@@ -564,3 +564,54 @@ struct ct_answer ct_quiet(ct_coordinator *c, ct_node *nodes, size_t nodes_count)
     stand(c, CT_STAGE_RESTING, 0, 0);
     return answer;
 }
+
+/* ---- shared data (C-16) ---- */
+
+enum { SLOT_SECTOR, SLOT_LENGTH, SLOT_RECORD }; /* where they stand in a slot */
+
+static bool is_record_length(size_t length) {
+    return length >= NADRELGOS_RECORD_MIN && length <= NADRELGOS_RECORD_MAX;
+}
+
+/* The lowest slot with a record of the sector, from 1. */
+static size_t slot_with(const uint8_t *image, uint8_t sector) {
+    for (size_t i = 0; i < NADRELGOS_SLOTS; i++, image += NADRELGOS_SLOT)
+        if (image[SLOT_SECTOR] == sector && is_record_length(image[SLOT_LENGTH])) return i + 1;
+    return 0;
+}
+
+static size_t free_slot(const uint8_t *image) {
+    for (size_t i = 0; i < NADRELGOS_SLOTS; i++, image += NADRELGOS_SLOT)
+        if (!is_record_length(image[SLOT_LENGTH])) return i + 1;
+    return 0;
+}
+
+static ct_holder held_in(enum nadrelgos_image_number number, const uint8_t *image, size_t slot) {
+    size_t start = NADRELGOS_SLOT * (slot - 1);
+    return (ct_holder){0, (uint8_t)number, (uint8_t)slot, start + SLOT_RECORD, image[start + SLOT_LENGTH]};
+}
+
+ct_holder ct_shared_holder(const uint8_t *network, size_t network_count, const uint8_t *factory, size_t factory_count,
+                           uint8_t sector) {
+    if (network_count != NADRELGOS_IMAGE || factory_count != NADRELGOS_IMAGE)
+        return (ct_holder){.refusal = NADRELGOS_STATE_UNFIT};
+    size_t slot = slot_with(network, sector);
+    if (slot) return held_in(NADRELGOS_NETWORK, network, slot);
+    slot = slot_with(factory, sector);
+    if (slot) return held_in(NADRELGOS_FACTORY, factory, slot);
+    return (ct_holder){0};
+}
+
+ct_storing ct_shared_store(uint8_t *network, size_t network_count, uint8_t sector, const uint8_t *record,
+                           size_t record_count) {
+    if (network_count != NADRELGOS_IMAGE) return (ct_storing){.refusal = NADRELGOS_STATE_UNFIT};
+    if (!is_record_length(record_count)) return (ct_storing){.refusal = NADRELGOS_BAD_LENGTH};
+    size_t slot = slot_with(network, sector);
+    if (!slot) slot = free_slot(network);
+    if (!slot) return (ct_storing){.refusal = NADRELGOS_NO_SLOT};
+    size_t start = NADRELGOS_SLOT * (slot - 1);
+    network[start + SLOT_SECTOR] = sector;
+    network[start + SLOT_LENGTH] = (uint8_t)record_count;
+    memcpy(network + start + SLOT_RECORD, record, record_count);
+    return (ct_storing){0, (uint8_t)slot, start, SLOT_RECORD + record_count};
+}

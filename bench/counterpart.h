@@ -1,6 +1,7 @@
-/* The same job in C: checksum, frame, finder and coordinator, as one would write them for a small panel. Records and
- * numbers are those of the panel's header, so that one state can be handed to both. The exchange by which a board joins
- * is left out, for it is not timed: its stages are known to the test of fit alone, and no step here leads to them. */
+/* The same job in C: checksum, frame, finder, coordinator and shared data, as one would write them for a small panel.
+ * Records and numbers are those of the panel's header, so that one state can be handed to both. What is not timed is
+ * left out: the response with shared data, and the exchange by which a board joins, whose stages are known to the test
+ * of fit alone: no step here leads to them. */
 #ifndef COUNTERPART_H
 #define COUNTERPART_H
 
@@ -52,6 +53,8 @@ typedef enum nadrelgos_refusal_number ct_refusal;
 typedef struct nadrelgos_coordinator ct_coordinator;
 typedef struct nadrelgos_node ct_node;
 typedef struct nadrelgos_finding ct_finding;
+typedef struct nadrelgos_holder ct_holder;
+typedef struct nadrelgos_storing ct_storing;
 
 bool ct_good(const uint8_t *bytes, size_t count);
 ct_refusal ct_read(uint8_t ours, const uint8_t *bytes, size_t count, struct ct_frame *frame);
@@ -66,5 +69,10 @@ struct ct_answer ct_turn(ct_coordinator *c, ct_node *nodes, size_t nodes_count, 
 struct ct_answer ct_hear(ct_coordinator *c, ct_node *nodes, size_t nodes_count, const uint8_t *bytes, size_t count,
                          uint8_t *out, size_t room);
 struct ct_answer ct_quiet(ct_coordinator *c, ct_node *nodes, size_t nodes_count);
+
+ct_holder ct_shared_holder(const uint8_t *network, size_t network_count, const uint8_t *factory, size_t factory_count,
+                           uint8_t sector);
+ct_storing ct_shared_store(uint8_t *network, size_t network_count, uint8_t sector, const uint8_t *record,
+                           size_t record_count);
 
 #endif

@@ -5,6 +5,7 @@
 #define _POSIX_C_SOURCE 199309L
 #include "inside.h"
 #include "same.h"
+#include "shared.h"
 #include "work.h"
 
 #include <stdio.h>
@@ -201,6 +202,17 @@ static void inside_table(struct work *w) {
     }
 }
 
+/* In images without a free slot: 40 heads are looked at, or 80, those of both; a store finds its sector in the last. */
+static void shared_table(struct work *w) {
+    printf("\n%-34s %12s %12s %8s\n", "ns a call", proved.name, counterpart.name, "ratio");
+    make_shared(SECTOR_LAST);
+    row("look-up, found in slot 40", w, hold_proved, hold_counterpart, 200, 4000);
+    make_shared(SECTOR_NONE);
+    row("look-up, in neither image", w, hold_proved, hold_counterpart, 200, 4000);
+    make_shared(SECTOR_LAST);
+    row("store, 200 bytes in slot 40", w, store_proved, store_counterpart, 200, 4000);
+}
+
 enum { LENT, COUNTERPART, STEPPERS };
 static job *const steppers[STEPPERS] = {steps_lent, steps_counterpart};
 
@@ -331,6 +343,7 @@ int main(int argc, char **argv) {
     wire_table(&w, &counterpart);
     ready_table(&w);
     inside_table(&w);
+    shared_table(&w);
     step_table(&w);
     growth_table(&w);
     return 0;

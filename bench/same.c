@@ -316,6 +316,43 @@ static bool same_setups(void) {
     return same && same_setup_of(pool, 1, NADRELGOS_NODES, 1);
 }
 
+/* ---- shared data ---- */
+
+static bool same_holder(const uint8_t *network, const uint8_t *factory, size_t count, uint8_t sector) {
+    struct nadrelgos_holder a = nadrelgos_shared_holder(network, NADRELGOS_IMAGE, factory, count, sector);
+    ct_holder b = ct_shared_holder(network, NADRELGOS_IMAGE, factory, count, sector);
+    return a.refusal == b.refusal && a.image == b.image && a.slot == b.slot && a.start == b.start &&
+           a.length == b.length;
+}
+
+/* Both store in the same image; what they leave must be the same. */
+static bool same_store(uint8_t *ours, size_t count, uint8_t sector, const uint8_t *record, size_t length) {
+    static uint8_t theirs[NADRELGOS_IMAGE];
+    memcpy(theirs, ours, sizeof theirs);
+    struct nadrelgos_storing a = nadrelgos_shared_store(ours, count, sector, record, length);
+    ct_storing b = ct_shared_store(theirs, count, sector, record, length);
+    return a.refusal == b.refusal && a.slot == b.slot && a.start == b.start && a.length == b.length &&
+           memcmp(ours, theirs, sizeof theirs) == 0;
+}
+
+/* Records of every length, of more sectors than there are slots, and any byte of the image changed in between. The
+   factory image is what the network's copy once was. */
+static bool same_shared(void) {
+    enum { STORES = 20000, SECTORS = 60, MORE = 210 };
+    static uint8_t network[NADRELGOS_IMAGE], factory[NADRELGOS_IMAGE], record[MORE];
+    uint64_t seed = 4;
+    for (size_t i = 0; i < STORES; i++) {
+        uint8_t sector = (uint8_t)(next_random(&seed) % SECTORS);
+        for (size_t j = 0; j < MORE; j++) record[j] = (uint8_t)next_random(&seed);
+        if (!same_store(network, NADRELGOS_IMAGE - (i % 64 == 0), sector, record, next_random(&seed) % MORE) ||
+            !same_holder(network, factory, NADRELGOS_IMAGE - (i % 64 == 1), (uint8_t)(next_random(&seed) % SECTORS)))
+            return false;
+        if (i == NADRELGOS_SLOTS) memcpy(factory, network, sizeof factory);
+        network[next_random(&seed) % NADRELGOS_IMAGE] = (uint8_t)next_random(&seed);
+    }
+    return true;
+}
+
 static bool said(const char *what, bool same) {
     if (!same) printf("bench: %s: the proved code and the counterpart DIFFER\n", what);
     return same;
@@ -330,5 +367,5 @@ static bool same_steps(void) {
 
 bool all_same(void) {
     return said("checksum, read, write, find", same_wire()) && said("lent step", same_steps()) &&
-           said("setup", same_setups());
+           said("setup", same_setups()) && said("shared data", same_shared());
 }

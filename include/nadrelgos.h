@@ -4,19 +4,21 @@
  * The archive libpanel.a, which `rt staticlib panel` proves and writes, has nadrelgos_setup, nadrelgos_step and, for
  * tools, nadrelgos_list, _clear and _mark. A second one, libfinder.a (`rt staticlib finder`), has nadrelgos_find, for a
  * host that cuts the line's bytes at a silence; a firmware that has whole frames from elsewhere need not link it. A
- * third one, libdisplay.a (`rt staticlib display`), reads and writes texts and faults for a display, and a fourth one,
- * libencapsulation.a (`rt staticlib encapsulation`), messages inside messages. They are written in Rattle and proved to
- * do what the definitions under crates/ say, for every input; docs/PROMISES.md leads from each rule to its definition,
- * its theorem and its code. This header is not proved: it restates those definitions for whoever writes the firmware.
+ * third one, libdisplay.a (`rt staticlib display`), reads and writes texts and faults for a display, a fourth one,
+ * libencapsulation.a (`rt staticlib encapsulation`), messages inside messages, and a fifth one, libshared.a
+ * (`rt staticlib shared`), keeps the shared data of boards. They are written in Rattle and proved to do what the
+ * definitions under crates/ say, for every input; docs/PROMISES.md leads from each rule to its definition, its theorem
+ * and its code. This header is not proved: it restates those definitions for whoever writes the firmware.
  * The archives are for x86-64; the assertions at the end stop a build whose records would be laid out otherwise. Of C's
  * library libpanel.a needs memcpy and memset and libencapsulation.a memcpy; the others need nothing. A call of
- * libpanel.a takes up to some 1.5 kilobytes of stack, one of libencapsulation.a up to 0.7: `hosts/c/run stack` measures
- * both.
+ * libpanel.a takes up to some 1.5 kilobytes of stack, one of libencapsulation.a up to 0.7, one of libshared.a less than
+ * 0.1: `hosts/c/run stack` measures them.
  *
  * WHO OWNS WHAT
- *   The host owns all memory: one coordinator record, forty node records, and the buffers. Nothing is allocated and
- *   nothing is kept between calls but what stands in the two lent things, so that a second panel is a second pair of
- *   them. No call may run while another one on the same pair has not returned.
+ *   The host owns all memory: one coordinator record, forty node records, the buffers, and two images where it keeps
+ *   shared data. Nothing is allocated and nothing is kept between calls but what stands in coordinator and node records
+ *   and in the network's copy of the shared data, so that a second panel is a second set of them. No call may run while
+ *   another one on the same set has not returned.
  *   What the host owes, and no test can see:
  *     - each pointer is good for its count and aligned for its type, and is not null even where the count is 0;
  *     - records and buffers have been written before, if only with zeros;
@@ -30,7 +32,8 @@
  *   fit by accident, and the step would act on them.
  *
  * WHAT A REFUSAL MEANS
- *   Nothing was changed: no node record, no field of the coordinator, no byte of out. A wait that was on is still on.
+ *   Nothing was changed: no node record, no field of the coordinator, no byte of out or of an image. A wait that was on
+ *   is still on.
  *   The call can be made again, at once or later. `enum nadrelgos_refusal_number` has what to do next for each number.
  *
  * THE CALLS
@@ -48,7 +51,8 @@
  *          NADRELGOS_DELIVER   it was a request for the host. Send the ACK that was written, then see to the request:
  *                              type received[7], payload received + 10, received[9] bytes long. The wait is over.
  *                              A text or a fault for the display, types 4 and 5: see TEXTS AND FAULTS. A message
- *                              that holds another, type 0x7E: see MESSAGES INSIDE MESSAGES.
+ *                              that holds another, type 0x7E: see MESSAGES INSIDE MESSAGES. Shared data to be kept
+ *                              or got back, types 0x10 and 0x11: see SHARED DATA.
  *          NADRELGOS_WAIT      it was an ACK, to a forwarded request or to Get Node ID, and the response is still to
  *                              come. Nothing to send: start the timer again and go on listening.
  *          refused             1 to 9, 23 or 24: it was not taken. The wait goes on, and so does the timer.
@@ -107,6 +111,26 @@
  *   level. What is refused is nobody's message: take nothing from it, the outer levels included. nadrelgos_wrap writes
  *   such a frame, to be sent by whoever sends frames of his own; the panel carries an encapsulation that one board
  *   sends to another as any other request, and opens none.
+ *
+ * SHARED DATA
+ *   Boards keep their settings in the network, so that a board that is put in the place of another finds them (API
+ *   Reference, 5.10 and 5.11): one record of 6 to 200 bytes for each sector, which is a node type, any byte. The host
+ *   lends two images of NADRELGOS_IMAGE bytes: the network's copy, in which records are stored, and the factory image,
+ *   which is only read, and only for a sector of which the network's copy has no record. No record is copied elsewhere.
+ *     0x10  Set Application Shared Data To Network. The payload is the sector, one byte, then the record to the very
+ *           end, its own length byte included; what it holds is not looked at. Give both to nadrelgos_shared_store: it
+ *           replaces the record of that sector, or takes the lowest free slot. A payload of no byte has no sector:
+ *           leave it.
+ *     0x11  Get Application Shared Data From Network. The payload is the sector alone; leave one of any other length.
+ *           nadrelgos_shared_holder says where the record stands, nadrelgos_shared_answer writes the payload of the
+ *           response, type 0x91: sector and record, or no byte where neither image has one. The panel answers what is
+ *           delivered with the ACK, and no call of it makes a response: the payload is for the host to use or to show.
+ *   Keep the network's copy in memory that outlives a power failure. A store is not done at one stroke, and a failure in
+ *   its midst may leave a slot with a part of its record: so lend working memory, and after each store that is not
+ *   refused write to the lasting one only the bytes that this store wrote, `length` of them from network + start on, the
+ *   second of them, the record's length, last. A new image is all 0, or all 255 as erased flash is: either has forty
+ *   free slots. A host that has no factory data lends such bytes as the factory image, or the network's copy itself
+ *   once more: who looks for a record only reads.
  *
  * READING THE RECORDS
  *   Between calls the host may read every field, as for its screen: the table is the list of who is there, with the
@@ -240,13 +264,14 @@ enum nadrelgos_event_number {
 
 /*
  * The numbers by which a call is refused: byte 0 of an answer, or the field `refusal` of what is said of a text, a
- * fault or an encapsulation; 0 where it was accepted. Each says when it is given, then what the firmware does next.
- * "Listen on" means: the wait, where one is on, is still on. Drop the bytes and go on listening until a frame ends the
- * wait; when the reply timer has run out, call nadrelgos_quiet. "The exchange" is the one by which a board joins:
- * stages 8 to 13. Where more than one holds, the first in this order is given: 22; then in setup 21, 13; in a join 12
- * to 16; in a discover 14, 15, 16, 11; in a turn 18, 19, 11; in a frame 1 to 4, 24, 5, 23, 6 to 9, 11; in a quiet 20.
- * Of a text or a fault 32, 33, and where it is written 11. Of a message inside messages 1 to 4, 24, then level by level
- * 31, 30; where it is written 31, 10, 11.
+ * fault, an encapsulation or shared data; 0 where it was accepted. Each says when it is given, then what the firmware
+ * does next. "Listen on" means: the wait, where one is on, is still on. Drop the bytes and go on listening until a
+ * frame ends the wait; when the reply timer has run out, call nadrelgos_quiet. "The exchange" is the one by which a
+ * board joins: stages 8 to 13. Where more than one holds, the first in this order is given: 22; then in setup 21, 13;
+ * in a join 12 to 16; in a discover 14, 15, 16, 11; in a turn 18, 19, 11; in a frame 1 to 4, 24, 5, 23, 6 to 9, 11; in
+ * a quiet 20. Of a text or a fault 32, 33, and where it is written 11. Of a message inside messages 1 to 4, 24, then
+ * level by level 31, 30; where it is written 31, 10, 11. Of shared data 22, then where it is stored 26, 27, and where
+ * the response's payload is written 11.
  */
 enum nadrelgos_refusal_number {
     NADRELGOS_ACCEPTED = 0,
@@ -286,7 +311,9 @@ enum nadrelgos_refusal_number {
     NADRELGOS_NO_ROOM = 11,          /* a turn, a frame or a discover: out is shorter than the frame due. Call again
                                         with more room, and for a frame with the same bytes. NADRELGOS_ROOM always
                                         suffices. A text or a fault: out is shorter than its payload. A message
-                                        inside messages: out is shorter than the frame; NADRELGOS_ROOM suffices */
+                                        inside messages: out is shorter than the frame; NADRELGOS_ROOM suffices.
+                                        The response with shared data: out is shorter than sector and record;
+                                        NADRELGOS_SHARED_ROOM suffices */
 
     /* a join, and where it says so a discover */
     NADRELGOS_BAD_TYPE = 12,      /* node type 0 or 165; also an event number that is none of the five. Give it up */
@@ -317,7 +344,14 @@ enum nadrelgos_refusal_number {
     NADRELGOS_STATE_UNFIT = 22, /* nodes_count is not 40; or, in a step, coordinator and table are not fit: no setup
                                    was accepted, or something else has written to them. Call nadrelgos_setup; the boards
                                    have to join again. Where the host has made or stored the table itself, look at its
-                                   indexes first: see RECORDS THAT THE HOST MAKES */
+                                   indexes first: see RECORDS THAT THE HOST MAKES. Of shared data: an image is not
+                                   NADRELGOS_IMAGE bytes long. Lend it whole */
+
+    /* shared data to be stored. The network's copy is as it was, and so is what the sector had */
+    NADRELGOS_BAD_LENGTH = 26, /* the record is not 6 to 200 bytes long. The board that sent it is wrong: leave it */
+    NADRELGOS_NO_SLOT = 27,    /* the sector has no record yet, and all forty slots are in use. Leave it: sectors that
+                                  have a record are still replaced. To make room the host frees a slot that nobody
+                                  needs any more, by 0 in its second byte, the length */
 
     /* a message inside messages. One that came in: take nothing from it, neither its outer levels nor its payload. Its
        frame was good, and who made what is inside is wrong */
@@ -538,6 +572,69 @@ struct nadrelgos_unwrapping nadrelgos_unwrap(uint8_t ours, const uint8_t *receiv
 struct nadrelgos_writing nadrelgos_wrap(struct nadrelgos_header header, struct nadrelgos_levels levels, size_t depth,
                                         const uint8_t *payload, size_t payload_count, uint8_t *out, size_t out_count);
 
+/* The message types by which a board has a record kept in the network, and gets it back. */
+#define NADRELGOS_SET_SHARED_DATA 0x10
+#define NADRELGOS_GET_SHARED_DATA 0x11
+
+/* An image of shared data: forty slots, each a sector, the record's length and room for the longest record. A slot
+   whose length is none that a record may have is free. */
+#define NADRELGOS_SLOTS 40
+#define NADRELGOS_SLOT 202
+#define NADRELGOS_IMAGE 8080
+
+/* How long a record is, at least and at most. */
+#define NADRELGOS_RECORD_MIN 6
+#define NADRELGOS_RECORD_MAX 200
+
+/* The longest payload of the response: a sector and the longest record. This room always suffices for out. */
+#define NADRELGOS_SHARED_ROOM 201
+
+/* Which image holds a record. */
+enum nadrelgos_image_number {
+    NADRELGOS_NEITHER = 0, /* neither: there is no such record */
+    NADRELGOS_NETWORK = 1, /* the network's copy */
+    NADRELGOS_FACTORY = 2  /* the factory image: the network's copy has none of this sector */
+};
+
+/* Where the record of a sector stands. All 0 where neither image has one, and all 0 but the first where it is
+   refused. */
+struct nadrelgos_holder {
+    uint8_t refusal; /* 0, or 22 by enum nadrelgos_refusal_number */
+    uint8_t image;   /* one of enum nadrelgos_image_number */
+    uint8_t slot;    /* 1 to 40, the lowest that has a record of the sector */
+    size_t start;    /* where in that image the record begins, behind sector and length */
+    size_t length;   /* of the record: 6 to 200 */
+};
+
+/* What storing a record came to. All 0 but the first where it is refused. */
+struct nadrelgos_storing {
+    uint8_t refusal; /* 0, or 22, 26 or 27 by enum nadrelgos_refusal_number */
+    uint8_t slot;    /* 1 to 40 */
+    size_t start;    /* which bytes of the network's copy were written: where they begin, */
+    size_t length;   /* and how many: sector, length and record, 8 to 202. All others are as they were */
+};
+
+/*
+ * Shared data, in libshared.a.
+ *
+ *   network, .._count      the network's copy and its size, NADRELGOS_IMAGE. Only nadrelgos_shared_store writes to it
+ *   factory, .._count      the factory image and its size, the same. It is only read
+ *   sector                 a node type, any byte
+ *   record, .._count       the record, 6 to 200 bytes, any. It does not overlap the network's copy
+ *   out, out_count         the response's payload is written at its front: nothing, or sector and record
+ *
+ * The holder is refused 22; the store 22, 26, 27; the answer 22, 11, and 11 never where there is no record. Any bytes
+ * are an image. Where several slots have records of one sector, the lowest counts, and a store replaces that one. What
+ * was stored is what is served from then on, and every other sector is served as before.
+ */
+struct nadrelgos_holder nadrelgos_shared_holder(const uint8_t *network, size_t network_count, const uint8_t *factory,
+                                                size_t factory_count, uint8_t sector);
+struct nadrelgos_storing nadrelgos_shared_store(uint8_t *network, size_t network_count, uint8_t sector,
+                                                const uint8_t *record, size_t record_count);
+struct nadrelgos_writing nadrelgos_shared_answer(const uint8_t *network, size_t network_count, const uint8_t *factory,
+                                                 size_t factory_count, uint8_t sector, uint8_t *out,
+                                                 size_t out_count);
+
 /*
  * The parts of an answer, low byte first: the refusal's number, the answer, the board awaited, its exchange, the
  * position joined, the position dropped, and in two bytes the count of bytes written. Positions are 1 to k, 0 for none.
@@ -730,6 +827,19 @@ NADRELGOS_LAID_OUT(offsetof(struct nadrelgos_header, parameter2) == 5);
 NADRELGOS_LAID_OUT(offsetof(struct nadrelgos_header, kind) == 6);
 NADRELGOS_LAID_OUT(offsetof(struct nadrelgos_header, message) == 7);
 NADRELGOS_LAID_OUT(offsetof(struct nadrelgos_header, packet) == 8);
+
+NADRELGOS_LAID_OUT(sizeof(struct nadrelgos_holder) == 24);
+NADRELGOS_LAID_OUT(offsetof(struct nadrelgos_holder, refusal) == 0);
+NADRELGOS_LAID_OUT(offsetof(struct nadrelgos_holder, image) == 1);
+NADRELGOS_LAID_OUT(offsetof(struct nadrelgos_holder, slot) == 2);
+NADRELGOS_LAID_OUT(offsetof(struct nadrelgos_holder, start) == 8);
+NADRELGOS_LAID_OUT(offsetof(struct nadrelgos_holder, length) == 16);
+
+NADRELGOS_LAID_OUT(sizeof(struct nadrelgos_storing) == 24);
+NADRELGOS_LAID_OUT(offsetof(struct nadrelgos_storing, refusal) == 0);
+NADRELGOS_LAID_OUT(offsetof(struct nadrelgos_storing, slot) == 1);
+NADRELGOS_LAID_OUT(offsetof(struct nadrelgos_storing, start) == 8);
+NADRELGOS_LAID_OUT(offsetof(struct nadrelgos_storing, length) == 16);
 #undef NADRELGOS_LAID_OUT
 #endif
 

@@ -1,7 +1,6 @@
 #include "board.h"
 
 #include "client.h"
-#include "scene.h"
 
 static struct sender sender_of(const struct board *board) {
     struct sender sender = {board->address, board->subnet, board->kind};
@@ -30,7 +29,7 @@ static void say_ack(const struct board *board, struct line *line, uint8_t turned
 /* To an offer: a request where the board has one, else an ACK. */
 static void take_offer(struct board *board, struct line *line, enum lapse lapse) {
     board->offers++;
-    const struct request *r = scene_request(board->kind, board->offers);
+    const struct request *r = scene_request(board->part, board->offers);
     if (r)
         say(board, line, r->type, r->method, r->parameter, r->payload, r->count);
     else
@@ -39,7 +38,7 @@ static void take_offer(struct board *board, struct line *line, enum lapse lapse)
 
 /* To another board's request: the furnace acknowledges first, the others give their response at once. */
 static void take_request(const struct board *board, struct line *line, const uint8_t *frame, enum lapse lapse) {
-    if (board->kind == FURNACE) say_ack(board, line, 0);
+    if (board->kind == KIND_FURNACE) say_ack(board, line, 0);
     if (lapse != NO_RESPONSE)
         say(board, line, (uint8_t)(frame[AT_TYPE] + TYPE_RESPONSE), frame[AT_METHOD], frame[AT_PARAMETER],
             frame + AT_PAYLOAD, frame[AT_LENGTH]);
@@ -61,7 +60,7 @@ static void disturb(const struct board *board, struct line *line, enum lapse lap
 }
 
 void board_answer(struct board *board, struct line *line, const uint8_t *frame) {
-    enum lapse lapse = scene_lapse(board->kind, board->messages);
+    enum lapse lapse = scene_lapse(board->part, board->messages);
     uint8_t type = frame[AT_TYPE];
     if (lapse == MISSES) return;
     disturb(board, line, lapse);

@@ -3,11 +3,13 @@
 #define BOARD_H
 
 #include "line.h"
+#include "scene.h"
 
 /* The node types of the boards. */
-enum { THERMOSTAT = 1, FURNACE = 2, AIR_HANDLER = 3, AIR_CONDITIONER = 4, CROSSOVER = 9 };
+enum { KIND_THERMOSTAT = 1, KIND_FURNACE = 2, KIND_AIR_HANDLER = 3, KIND_AIR_CONDITIONER = 4, KIND_CROSSOVER = 9 };
 
 struct board {
+    enum part part; /* in the scene */
     uint8_t kind;
     uint64_t mac;
     uint64_t session;

@@ -1,7 +1,6 @@
 #include "bus.h"
 
 #include "client.h"
-#include "scene.h"
 
 #include <string.h>
 
@@ -22,7 +21,7 @@ static void set_address(const struct bus *bus, struct board *board, uint8_t addr
 
 /* What time does to a board: power comes and goes, and a board to which nothing is sent gives up its address. */
 static void age(const struct bus *bus, struct board *board) {
-    const struct outage *outage = scene_outage(board->kind, bus->messages);
+    const struct outage *outage = scene_outage(board->part, bus->messages);
     board->powered = !outage || outage->on == bus->messages;
     if (outage)
         set_address(bus, board, board->powered ? outage->address : 0);
@@ -35,7 +34,7 @@ static void age(const struct bus *bus, struct board *board) {
 static void discover(struct bus *bus) {
     const struct board *first = NULL;
     unsigned shortest = 0;
-    for (unsigned i = 0; i < BUS_BOARDS; i++) {
+    for (unsigned i = 0; i < PARTS; i++) {
         struct board *board = &bus->boards[i];
         if (board->address != 0 || !board->powered) continue;
         unsigned delay = client_delay(board);
@@ -48,18 +47,18 @@ static void discover(struct bus *bus) {
 
 /* Set Address: the board that it is for takes the address. */
 static void assign(struct bus *bus, const uint8_t *frame) {
-    for (unsigned i = 0; i < BUS_BOARDS; i++) {
+    for (unsigned i = 0; i < PARTS; i++) {
         struct board *board = &bus->boards[i];
         if (!board->powered || !wire_assigns(frame, board->mac, board->session)) continue;
         board->messages++;
         board->heard = bus->seconds;
-        if (scene_lapse(board->kind, board->messages) != MISSES) client_take(board, &bus->line, frame);
+        if (scene_lapse(board->part, board->messages) != MISSES) client_take(board, &bus->line, frame);
     }
 }
 
 /* A message to one address: the board that has it answers. */
 static void hand_over(struct bus *bus, const uint8_t *frame) {
-    for (unsigned i = 0; i < BUS_BOARDS; i++) {
+    for (unsigned i = 0; i < PARTS; i++) {
         struct board *board = &bus->boards[i];
         if (board->address == 0 || board->address != frame[AT_DESTINATION]) continue;
         board->messages++;
@@ -75,7 +74,7 @@ static void bus_send(void *line, const uint8_t *bytes, size_t count) {
     if (bytes[AT_TYPE] == TYPE_R2R && bytes[AT_PAYLOAD] == CODE_ACK) return;
     bus->messages++;
     bus->seconds += MESSAGE_SECONDS;
-    for (unsigned i = 0; i < BUS_BOARDS; i++) age(bus, &bus->boards[i]);
+    for (unsigned i = 0; i < PARTS; i++) age(bus, &bus->boards[i]);
     if (bytes[AT_DESTINATION] != WIRE_ALL)
         hand_over(bus, bytes);
     else if (bytes[AT_TYPE] == TYPE_DISCOVER)
@@ -112,12 +111,13 @@ static void bus_pause(void *line, uint32_t seconds) {
 }
 
 void bus_start(struct bus *bus) {
-    static const struct board boards[BUS_BOARDS] = {
-        {.kind = THERMOSTAT, .mac = 0x1A2B00000101},
-        {.kind = FURNACE, .mac = 0x1A2B00000202},
-        {.kind = AIR_CONDITIONER, .mac = 0x1A2B00000303},
-        {.kind = AIR_HANDLER, .mac = 0x1A2B00000404, .session = 44},
-        {.kind = CROSSOVER, .mac = 0x1A2B00000505, .session = 55},
+    static const struct board boards[PARTS] = {
+        {.part = THERMOSTAT, .kind = KIND_THERMOSTAT, .mac = 0x1A2B00000101},
+        {.part = FURNACE, .kind = KIND_FURNACE, .mac = 0x1A2B00000202},
+        {.part = AIR_CONDITIONER, .kind = KIND_AIR_CONDITIONER, .mac = 0x1A2B00000303},
+        {.part = AIR_HANDLER, .kind = KIND_AIR_HANDLER, .mac = 0x1A2B00000404, .session = 44},
+        {.part = CROSSOVER, .kind = KIND_CROSSOVER, .mac = 0x1A2B00000505, .session = 55},
+        {.part = NEW_FURNACE, .kind = KIND_FURNACE, .mac = 0x1A2B00000606},
     };
     memset(bus, 0, sizeof *bus);
     memcpy(bus->boards, boards, sizeof boards);

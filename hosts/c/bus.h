@@ -1,14 +1,12 @@
-/* A simulated CT-485 bus: five boards, the line between them and the panel, and a clock. */
+/* A simulated CT-485 bus: its boards, the line between them and the panel, and a clock. */
 #ifndef BUS_H
 #define BUS_H
 
 #include "board.h"
 #include "port.h"
 
-enum { BUS_BOARDS = 5 };
-
 struct bus {
-    struct board boards[BUS_BOARDS];
+    struct board boards[PARTS];
     struct line line;  /* from them to the panel */
     unsigned messages; /* of the panel, ACKs apart */
     uint32_t seconds;  /* since the bus was switched on */

@@ -14,9 +14,20 @@ static void send_written(const struct panel *panel, const struct port *port, uin
     if (nadrelgos_written(answer) > 0) port->send(port->line, panel->out, nadrelgos_written(answer));
 }
 
-/* A request of a board for this host. Its type is received[7], its payload begins at received[10]. */
+/* A request of a board for this host. Its type is received[7], its payload begins at received[10] and is received[9]
+   bytes long. Shared data without a sector is left, and so is a request for it with more than that. */
 static void deliver(const struct panel *panel, uint64_t wait) {
-    tell_request(panel, wait);
+    const uint8_t *payload = panel->received + 10;
+    size_t count = panel->received[9];
+    if (panel->received[7] == NADRELGOS_SET_SHARED_DATA && count > 0) {
+        struct nadrelgos_storing stored = shared_store(&panel->shared, payload, count);
+        tell_stored(panel, wait, stored);
+    } else if (panel->received[7] == NADRELGOS_GET_SHARED_DATA && count == 1) {
+        struct served served = shared_serve(&panel->shared, *payload);
+        tell_served(panel, wait, &served);
+    } else {
+        tell_request(panel, wait);
+    }
 }
 
 /* The wait is over by this answer: when to look for boards again. After a join at once: others may have held back. */

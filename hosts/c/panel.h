@@ -4,6 +4,7 @@
 
 #include "nadrelgos.h"
 #include "port.h"
+#include "shared.h"
 
 /* What the panel is set up with, and how often it looks for boards. */
 struct plan {
@@ -14,7 +15,7 @@ struct plan {
     uint32_t look_every; /* in seconds, 120 at most; after a board has joined it is done at the next chance */
 };
 
-/* In static storage, so that it starts as zeros. */
+/* In static storage, so that it starts as zeros, but for the plan and the images of shared data that it is lent. */
 struct panel {
     struct nadrelgos_coordinator coordinator;
     struct nadrelgos_node nodes[NADRELGOS_NODES];
@@ -22,6 +23,7 @@ struct panel {
     uint8_t received[NADRELGOS_ROOM];
     struct plan plan;
     uint32_t look; /* when to look for boards again, in seconds */
+    struct shared shared;
 };
 
 /* The fresh start. Whether the plan was taken. */

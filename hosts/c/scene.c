@@ -1,6 +1,8 @@
 #include "scene.h"
 
-#include "board.h"
+#include "wire.h"
+
+#include <limits.h>
 
 #define COUNT(table) (sizeof(table) / sizeof *(table))
 
@@ -29,11 +31,18 @@ static const struct request requests[] = {
     {CROSSOVER, 5, TYPE_ENCAPSULATION, 0, 0, 17, "\1\0\0\0\x7E\0\x0A" "\2\0\0\0\x02\0\x04" "\1\2\3"}, /* cut off */
     {CROSSOVER, 6, TYPE_ENCAPSULATION, 0, 0, 35,                          /* five levels */
      "\1\0\0\0\x7E\0\x1C" "\2\0\0\0\x7E\0\x15" "\3\0\0\0\x7E\0\x0E" "\4\0\0\0\x7E\0\x07" "\5\0\0\0\x02\0\0"},
+    /* shared data: a sector and its record, which is a length, control ID, manufacturer ID, node type and settings; or
+       a sector alone, whose record is wanted */
+    {FURNACE, 11, TYPE_SET_SHARED, 0, 0, 11, "\2" "\x0A\x11\0\x22\0\2" "\x2D\x1E\x5A\3"},
+    {AIR_HANDLER, 18, TYPE_SET_SHARED, 0, 0, 6, "\3" "\x05\x11\0\x22\0"}, /* too short */
+    {CROSSOVER, 8, TYPE_GET_SHARED, 0, 0, 1, "\x09"},                     /* nobody has it */
+    {AIR_CONDITIONER, 8, TYPE_GET_SHARED, 0, 0, 1, "\4"},                 /* the factory has it */
+    {NEW_FURNACE, 1, TYPE_GET_SHARED, 0, 0, 1, "\2"},                     /* what the other furnace stored */
 };
 
 /* The air conditioner leaves its first Set Address unanswered; the crossover gives no ID when it is asked for it. */
 static const struct {
-    uint8_t kind;
+    enum part part;
     unsigned message;
     enum lapse lapse;
 } lapses[] = {
@@ -44,26 +53,28 @@ static const struct {
 };
 
 /* One board after the other is switched on, two of them with addresses that the panel believes free. The furnace loses
-   its power for a moment, and later for so long that it is dropped. */
+   its power for a moment, and later for so long that it is dropped. In the end it is taken out for good, and the new
+   one is put in its place. */
 static const struct outage outages[] = {
     {THERMOSTAT, 1, 2, 0},  {FURNACE, 1, 7, 0},   {AIR_CONDITIONER, 1, 13, 0}, {AIR_HANDLER, 1, 13, 18},
-    {CROSSOVER, 1, 16, 19}, {FURNACE, 60, 61, 0}, {FURNACE, 89, 109, 0},
+    {CROSSOVER, 1, 16, 19}, {FURNACE, 60, 61, 0}, {FURNACE, 89, 109, 0},       {FURNACE, 129, UINT_MAX, 0},
+    {NEW_FURNACE, 1, 145, 0},
 };
 
-const struct request *scene_request(uint8_t kind, unsigned offer) {
+const struct request *scene_request(enum part part, unsigned offer) {
     for (size_t i = 0; i < COUNT(requests); i++)
-        if (requests[i].kind == kind && requests[i].offer == offer) return &requests[i];
+        if (requests[i].part == part && requests[i].offer == offer) return &requests[i];
     return NULL;
 }
 
-enum lapse scene_lapse(uint8_t kind, unsigned message) {
+enum lapse scene_lapse(enum part part, unsigned message) {
     for (size_t i = 0; i < COUNT(lapses); i++)
-        if (lapses[i].kind == kind && lapses[i].message == message) return lapses[i].lapse;
+        if (lapses[i].part == part && lapses[i].message == message) return lapses[i].lapse;
     return NONE;
 }
 
-const struct outage *scene_outage(uint8_t kind, unsigned message) {
+const struct outage *scene_outage(enum part part, unsigned message) {
     for (size_t i = 0; i < COUNT(outages); i++)
-        if (outages[i].kind == kind && outages[i].off <= message && message <= outages[i].on) return &outages[i];
+        if (outages[i].part == part && outages[i].off <= message && message <= outages[i].on) return &outages[i];
     return NULL;
 }

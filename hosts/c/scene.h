@@ -5,9 +5,12 @@
 #include <stddef.h>
 #include <stdint.h>
 
+/* The boards. The new furnace takes the place of the other. */
+enum part { THERMOSTAT, FURNACE, AIR_CONDITIONER, AIR_HANDLER, CROSSOVER, NEW_FURNACE, PARTS };
+
 /* A request that a board makes at one of its offers. */
 struct request {
-    uint8_t kind;
+    enum part part;
     unsigned offer;
     uint8_t type, method, parameter;
     size_t count;
@@ -18,20 +21,20 @@ struct request {
 enum lapse { NONE, MISSES, NO_RESPONSE, DAMAGED, TALKED_OVER, LATE_ID, NOISE };
 
 /* The request of this board at its n-th offer; NULL where it has none. */
-const struct request *scene_request(uint8_t kind, unsigned offer);
+const struct request *scene_request(enum part part, unsigned offer);
 
 /* What this board does at the n-th message for it. */
-enum lapse scene_lapse(uint8_t kind, unsigned message);
+enum lapse scene_lapse(enum part part, unsigned message);
 
 /* A board is without power from the message `off` on the bus, and has it again from the message `on`. It then has no
    address, or this one, which another panel gave it. */
 struct outage {
-    uint8_t kind;
+    enum part part;
     unsigned off, on;
     uint8_t address;
 };
 
 /* The outage of this board that is on, or over, at the n-th message on the bus; NULL where there is none. */
-const struct outage *scene_outage(uint8_t kind, unsigned message);
+const struct outage *scene_outage(enum part part, unsigned message);
 
 #endif

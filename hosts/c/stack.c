@@ -5,7 +5,8 @@
  *
  * The steps are those of a full table, forty boards, with the longest payloads that a frame can carry: accepted and
  * refused joins and discoveries, lists, offers, requests by each method with their forwards and returns, misses, drops.
- * What is wrapped and unwrapped is the longest message in four levels.
+ * What is wrapped and unwrapped is the longest message in four levels. Shared data is looked up in two full images that
+ * have none of the sector, and the longest record is stored in the last slot and written as a response.
  */
 #include "nadrelgos.h"
 #include "wire.h"
@@ -28,6 +29,7 @@ static uint8_t out[NADRELGOS_ROOM];
 static uint8_t received[WIRE_MOST];
 static size_t received_count;
 static uint8_t capture[4096]; /* no good frame, and room for the longest at every start */
+static uint8_t network[NADRELGOS_IMAGE], factory[NADRELGOS_IMAGE];
 static bool astray; /* something came out otherwise than this program means it to */
 
 /* ---- a call on a painted stack */
@@ -35,7 +37,8 @@ static bool astray; /* something came out otherwise than this program means it t
 static _Alignas(64) uint8_t stack[STACK];
 
 /* what is called: a step by its event's number, or one of these */
-enum { SETUP = 0, MARK = 6, CLEAR = 7, FIND = 8, WRAP = 9, UNWRAP = 10, CALLS = 11, NOTHING = 255 };
+enum { SETUP = 0, MARK = 6, CLEAR = 7, FIND = 8, WRAP = 9, UNWRAP = 10, HOLDER = 11, STORE = 12, ANSWER = 13,
+       CALLS = 14, NOTHING = 255 };
 
 struct call {
     uint8_t event;
@@ -60,6 +63,28 @@ __attribute__((noinline)) static void unwrap(void) {
     if (nadrelgos_unwrap(SUBNET, out, sizeof out).depth != NADRELGOS_LEVELS) astray = true;
 }
 
+/* Shared data in full images: a sector that neither has, and the one in the last slot of the network's copy. By
+   themselves too. */
+enum { SECTOR_NONE = 0, SECTOR_LAST = NADRELGOS_SLOTS };
+
+__attribute__((noinline)) static void hold_none(void) {
+    struct nadrelgos_holder found =
+        nadrelgos_shared_holder(network, sizeof network, factory, sizeof factory, SECTOR_NONE);
+    if (found.refusal || found.image != NADRELGOS_NEITHER) astray = true;
+}
+
+__attribute__((noinline)) static void store_longest(void) {
+    if (nadrelgos_shared_store(network, sizeof network, SECTOR_LAST, capture, NADRELGOS_RECORD_MAX).slot !=
+        NADRELGOS_SLOTS)
+        astray = true;
+}
+
+__attribute__((noinline)) static void answer_longest(void) {
+    if (nadrelgos_shared_answer(network, sizeof network, factory, sizeof factory, SECTOR_LAST, out, sizeof out)
+            .written != NADRELGOS_SHARED_ROOM)
+        astray = true;
+}
+
 static void make(struct call *call) {
     switch (call->event) {
     case NOTHING: break;
@@ -75,6 +100,9 @@ static void make(struct call *call) {
     case FIND: find(); break;
     case WRAP: wrap(); break;
     case UNWRAP: unwrap(); break;
+    case HOLDER: hold_none(); break;
+    case STORE: store_longest(); break;
+    case ANSWER: answer_longest(); break;
     default:
         call->answer = nadrelgos_step(&coordinator, nodes, NADRELGOS_NODES, call->event, call->kind, call->mac, 1,
                                       received, received_count, out, sizeof out);
@@ -201,6 +229,22 @@ static void carry(uint8_t method, uint8_t parameter, bool acknowledges, bool ans
     }
 }
 
+/* An image without a free slot: sector `first` in slot 1, and so on. */
+static void fill(uint8_t image[NADRELGOS_IMAGE], unsigned first) {
+    for (unsigned i = 0; i < NADRELGOS_SLOTS; i++) {
+        image[NADRELGOS_SLOT * i] = (uint8_t)(first + i);
+        image[NADRELGOS_SLOT * i + 1] = NADRELGOS_RECORD_MAX;
+    }
+}
+
+static void share(void) {
+    fill(network, 1);
+    fill(factory, 1 + NADRELGOS_SLOTS);
+    measure(HOLDER, 0, 0);
+    measure(STORE, 0, 0);
+    measure(ANSWER, 0, 0);
+}
+
 int main(void) {
     struct call empty = {NOTHING, 0, 0, 0};
     nothing = depth(&empty);
@@ -244,6 +288,7 @@ int main(void) {
     measure(FIND, 0, 0);
     measure(WRAP, 0, 0);
     measure(UNWRAP, 0, 0);
+    share();
     if (astray) {
         printf("stack: the panel did not do what this program means to measure\n");
         return 1;
@@ -251,10 +296,11 @@ int main(void) {
 
     printf("stack of one call, in bytes, over %u calls on a full table (%u refused):\n", calls, refused);
     printf("  setup %u, join %u, turn %u, frame %u, quiet %u, discover %u, mark %u, clear %u, find %u, unwrap %u, "
-           "wrap %u\n",
+           "wrap %u, shared holder %u, store %u, answer %u\n",
            (unsigned)deepest[SETUP], (unsigned)deepest[NADRELGOS_EVENT_JOIN], (unsigned)deepest[NADRELGOS_EVENT_TURN],
            (unsigned)deepest[NADRELGOS_EVENT_FRAME], (unsigned)deepest[NADRELGOS_EVENT_QUIET],
            (unsigned)deepest[NADRELGOS_EVENT_DISCOVER], (unsigned)deepest[MARK], (unsigned)deepest[CLEAR],
-           (unsigned)deepest[FIND], (unsigned)deepest[UNWRAP], (unsigned)deepest[WRAP]);
+           (unsigned)deepest[FIND], (unsigned)deepest[UNWRAP], (unsigned)deepest[WRAP], (unsigned)deepest[HOLDER],
+           (unsigned)deepest[STORE], (unsigned)deepest[ANSWER]);
     return 0;
 }

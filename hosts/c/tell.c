@@ -67,8 +67,27 @@ void tell_quiet(const struct panel *panel, uint64_t wait, struct nadrelgos_node 
     if (nadrelgos_dropped(answer)) tell_table(panel);
 }
 
+/* A line below that of the call which delivered it. */
+static void tell_delivered(const struct words *words) {
+    printf("                %s\n", words->text);
+}
+
 void tell_request(const struct panel *panel, uint64_t wait) {
     struct words words;
     words_request(&words, panel, wait);
-    printf("                %s\n", words.text);
+    tell_delivered(&words);
+}
+
+void tell_stored(const struct panel *panel, uint64_t wait, struct nadrelgos_storing stored) {
+    struct words words;
+    (void)wait;
+    words_stored(&words, panel, stored);
+    tell_delivered(&words);
+}
+
+void tell_served(const struct panel *panel, uint64_t wait, const struct served *served) {
+    struct words words;
+    (void)wait;
+    words_served(&words, panel, served);
+    tell_delivered(&words);
 }

@@ -20,6 +20,10 @@ void tell_quiet(const struct panel *panel, uint64_t wait, struct nadrelgos_node 
 /* A request for the host, which ended this wait. */
 void tell_request(const struct panel *panel, uint64_t wait);
 
+/* The same, of shared data: a record to be stored, and one that was asked for. */
+void tell_stored(const struct panel *panel, uint64_t wait, struct nadrelgos_storing stored);
+void tell_served(const struct panel *panel, uint64_t wait, const struct served *served);
+
 /* Who is listed. The loop does not ask for it. */
 void tell_table(const struct panel *panel);
 

@@ -13,11 +13,12 @@ enum { WIRE_PANEL = 255, WIRE_ALL = 0, WIRE_AROUND = 12, WIRE_MOST = 252 };
 enum { AT_DESTINATION, AT_SOURCE, AT_SUBNET, AT_METHOD, AT_PARAMETER, AT_PARAMETER_2, AT_KIND, AT_TYPE, AT_PACKET,
        AT_LENGTH, AT_PAYLOAD };
 
-/* Message types (API Reference, table 68): R2R and ACK, control command, display message, diagnostics, node list,
-   Node Discovery, Set Address, Get Node ID, encapsulation; a response has its request's type and this more. */
-enum { TYPE_R2R = 0x00, TYPE_CONTROL = 0x03, TYPE_DISPLAY = 0x04, TYPE_DIAGNOSTICS = 0x05, TYPE_LIST = 0x14,
-       TYPE_DISCOVER = 0x79, TYPE_ASSIGN = 0x7A, TYPE_IDENTIFY = 0x7B, TYPE_ENCAPSULATION = 0x7E,
-       TYPE_RESPONSE = 0x80 };
+/* Message types (API Reference, table 68): R2R and ACK, control command, display message, diagnostics, shared data to
+   and from the network, node list, Node Discovery, Set Address, Get Node ID, encapsulation; a response has its
+   request's type and this more. */
+enum { TYPE_R2R = 0x00, TYPE_CONTROL = 0x03, TYPE_DISPLAY = 0x04, TYPE_DIAGNOSTICS = 0x05, TYPE_SET_SHARED = 0x10,
+       TYPE_GET_SHARED = 0x11, TYPE_LIST = 0x14, TYPE_DISCOVER = 0x79, TYPE_ASSIGN = 0x7A, TYPE_IDENTIFY = 0x7B,
+       TYPE_ENCAPSULATION = 0x7E, TYPE_RESPONSE = 0x80 };
 
 /* The first byte of an R2R frame's payload, the length of that, and its packet number (API Reference, 6.1 and 4.3). */
 enum { CODE_OFFER = 0x00, CODE_ACK = 0x06, R2R_LENGTH = 17, DATAFLOW = 0x80 };

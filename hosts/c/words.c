@@ -28,7 +28,8 @@ const char *words_refusal(unsigned refusal) {
         "accepted", "short", "over-long", "length mismatch", "bad checksum", "not for us", "not awaited",
         "unexpected type", "bad echo", "bad method", "payload too long", "no room", "bad type", "bad MAC", "busy",
         "held", "full", "retired", "awaiting reply", "nobody listed", "not waiting", "bad pool", "state unfit",
-        "not discovering", "other subnet", [NADRELGOS_BAD_INNER] = "bad inner", [NADRELGOS_TOO_DEEP] = "too deep",
+        "not discovering", "other subnet", [NADRELGOS_BAD_LENGTH] = "bad length", [NADRELGOS_NO_SLOT] = "no slot",
+        [NADRELGOS_BAD_INNER] = "bad inner", [NADRELGOS_TOO_DEEP] = "too deep",
         [NADRELGOS_BAD_TEXT_LENGTH] = "bad text length", [NADRELGOS_BAD_TEXT] = "bad text",
     };
     return refusal < COUNT(names) && names[refusal] ? names[refusal] : "unknown";
@@ -184,6 +185,32 @@ static void say_inside(struct words *words, const struct panel *panel) {
     else
         say(words, "for the host: message of type %u in %u level%s, %u bytes%s", read.message, read.depth,
             read.depth == 1 ? "" : "s", (unsigned)read.length, digits_of(received + read.start, read.length).text);
+}
+
+/* Or it has a record kept for its sector. */
+void words_stored(struct words *words, const struct panel *panel, struct nadrelgos_storing stored) {
+    unsigned sector = panel->received[AT_PAYLOAD], count = panel->received[AT_LENGTH] - 1u;
+    const uint8_t *record = panel->received + AT_PAYLOAD + 1;
+    if (stored.refusal)
+        say(words, "for the host: no record of sector %u that can be stored, %s", sector,
+            words_refusal(stored.refusal));
+    else
+        say(words, "for the host: sector %u stored in slot %u, %u bytes%s", sector, stored.slot, count,
+            digits_of(record, count).text);
+}
+
+/* Or it wants the record back. The bytes are those of the response's payload. */
+void words_served(struct words *words, const struct panel *panel, const struct served *served) {
+    unsigned sector = panel->received[AT_PAYLOAD], count = (unsigned)served->writing.written;
+    const struct nadrelgos_holder *holder = &served->holder;
+    const char *image = holder->image == NADRELGOS_NETWORK ? "the network's copy" : "the factory image";
+    if (served->writing.refusal)
+        say(words, "for the host: sector %u cannot be served, %s", sector, words_refusal(served->writing.refusal));
+    else if (holder->image == NADRELGOS_NEITHER)
+        say(words, "for the host: sector %u has no record in either image: an empty payload", sector);
+    else
+        say(words, "for the host: sector %u served from %s, slot %u, %u bytes%s", sector, image, holder->slot, count,
+            digits_of(served->payload, count).text);
 }
 
 void words_request(struct words *words, const struct panel *panel, uint64_t wait) {

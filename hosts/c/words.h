@@ -8,7 +8,7 @@
 enum { RESTING = 0, FORWARD_DUE = 6, RETURN_DUE = 7, IDENTIFY_DUE = 9, ASSIGN_DUE = 12 };
 
 struct words {
-    char text[128];
+    char text[160];
 };
 
 /* A node type, a refusal by its number, and an exchange by its number. */
@@ -31,5 +31,9 @@ void words_quiet(struct words *words, const struct panel *panel, uint64_t wait, 
 
 /* What was received in this wait, a request for the host: what it wants. */
 void words_request(struct words *words, const struct panel *panel, uint64_t wait);
+
+/* What became of shared data that was to be stored, and of what was asked for: the request received. */
+void words_stored(struct words *words, const struct panel *panel, struct nadrelgos_storing stored);
+void words_served(struct words *words, const struct panel *panel, const struct served *served);
 
 #endif

@@ -25,6 +25,11 @@ static struct panel panel;
 static struct serial serial;
 static uint8_t addresses[ADDRESSES];
 
+/* The images of shared data: zeros are free slots. What boards store is kept as long as the panel runs; they store it
+   anew when they get the node list (API Reference, 5.10). There is no factory data. */
+static uint8_t network[NADRELGOS_IMAGE];
+static const uint8_t factory[NADRELGOS_IMAGE];
+
 /* A new session at each start (Networking Specification, 7.10.1), and not 0. */
 static uint64_t new_session(void) {
     uint64_t session = 0;
@@ -36,6 +41,7 @@ static void make_plan(const struct options *options) {
     for (unsigned i = 0; i < ADDRESSES; i++) addresses[i] = (uint8_t)(FIRST_ADDRESS + i);
     panel.plan = (struct plan){addresses,    sizeof addresses, options->subnet,    ZONE_CONTROLLER,
                                options->mac, new_session(),    options->look_every};
+    panel.shared = (struct shared){network, factory};
 }
 
 static void make_line(const struct options *options) {

@@ -194,16 +194,33 @@ void tell_quiet(const struct panel *panel, uint64_t wait, struct nadrelgos_node 
     show_board("dropped", "off the list", nadrelgos_dropped(answer), &before);
 }
 
-void tell_request(const struct panel *panel, uint64_t wait) {
+/* A request for the host, and what it wants or what became of it. */
+static void show_delivered(const struct panel *panel, uint64_t wait, const struct words *words) {
     const uint8_t *frame = panel->received;
-    struct words words;
-    words_request(&words, panel, wait);
-    struct event event = begin("delivered", HAS_PLACE | HAS_REQUEST | HAS_TEXT, words.text);
+    struct event event = begin("delivered", HAS_PLACE | HAS_REQUEST | HAS_TEXT, words->text);
     set_place(&event, nadrelgos_board(wait));
     event.message = frame[AT_TYPE];
-    event.text = words.text;
+    event.text = words->text;
     event.frame = (struct bytes){frame + AT_PAYLOAD, frame[AT_LENGTH]};
     show(&event);
+}
+
+void tell_request(const struct panel *panel, uint64_t wait) {
+    struct words words;
+    words_request(&words, panel, wait);
+    show_delivered(panel, wait, &words);
+}
+
+void tell_stored(const struct panel *panel, uint64_t wait, struct nadrelgos_storing stored) {
+    struct words words;
+    words_stored(&words, panel, stored);
+    show_delivered(panel, wait, &words);
+}
+
+void tell_served(const struct panel *panel, uint64_t wait, const struct served *served) {
+    struct words words;
+    words_served(&words, panel, served);
+    show_delivered(panel, wait, &words);
 }
 
 /* ---- what happens beside the loop */

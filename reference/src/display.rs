@@ -2,6 +2,7 @@
 //! a board wants shown on the wall display (003, 5.4 and 5.5; C-22).
 
 use crate::refusal::{refuse_if, Refusal};
+use crate::room;
 
 /// 003, Table 8: a message has 0 to 30 bytes.
 pub const DISPLAY_TEXT: usize = 30;
@@ -83,10 +84,7 @@ fn write(fixed: &[u8], text: &[u8], most: usize, out: &mut [u8]) -> Result<usize
     let length = u8::try_from(text.len()).map_err(|_| Refusal::BadTextLength)?;
     let field = [&[length], text].concat();
     text_in(&field, most)?;
-    let payload = [fixed, &field].concat();
-    let place = out.get_mut(..payload.len()).ok_or(Refusal::NoRoom)?;
-    place.copy_from_slice(&payload);
-    Ok(payload.len())
+    room::put(&[fixed, &field].concat(), out)
 }
 
 #[cfg(test)]

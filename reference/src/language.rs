@@ -10,6 +10,8 @@ pub const SCRIPT_LIMIT: usize = 1 << 20;
 /// Design 7: ROOM is 0 to 1,024, and HEX has up to 1,024 bytes.
 pub const ROOM_LIMIT: u64 = 1024;
 pub const HEX_LIMIT: usize = 1024;
+/// C-16: an image has up to 16,384 bytes, so that other sizes can be tried.
+pub const IMAGE_LIMIT: usize = 16_384;
 
 /// Numbers the lines of a script: all of them are counted.
 #[derive(Default)]
@@ -78,7 +80,11 @@ pub fn room(word: &str) -> Option<usize> {
 
 /// Pairs of hex digits of either case, 1 to 1,024 of them.
 pub fn pairs(word: &str) -> Option<Vec<u8>> {
-    let fits = !word.is_empty() && word.len() % 2 == 0 && word.len() <= 2 * HEX_LIMIT;
+    pairs_up_to(word, HEX_LIMIT)
+}
+
+fn pairs_up_to(word: &str, most: usize) -> Option<Vec<u8>> {
+    let fits = !word.is_empty() && word.len() % 2 == 0 && word.len() <= 2 * most;
     if !fits {
         return None;
     }
@@ -91,11 +97,17 @@ fn pair(digits: &[u8]) -> Option<u8> {
     Some((16 * high + low) as u8)
 }
 
-/// The HEX that ends a line; where there is none, it is no bytes.
+/// The HEX that ends a line, of up to 1,024 bytes; where there is none, it is no
+/// bytes.
 pub fn last_pairs(words: &[&str]) -> Option<Vec<u8>> {
+    last_pairs_up_to(words, HEX_LIMIT)
+}
+
+/// The same of up to `most` bytes.
+pub fn last_pairs_up_to(words: &[&str], most: usize) -> Option<Vec<u8>> {
     match words {
         [] => Some(Vec::new()),
-        [word] => pairs(word),
+        [word] => pairs_up_to(word, most),
         _ => None,
     }
 }
@@ -152,6 +164,11 @@ mod tests {
         assert_eq!(last_pairs(&[]), Some(Vec::new()));
         assert_eq!(last_pairs(&["41"]), Some(vec![0x41]));
         assert_eq!((last_pairs(&[""]), last_pairs(&["41", "42"])), (None, None));
+        assert_eq!(last_pairs_up_to(&["4142"], 2), Some(vec![0x41, 0x42]));
+        assert_eq!(
+            (last_pairs_up_to(&["414243"], 2), last_pairs_up_to(&[], 2)),
+            (None, Some(vec![]))
+        );
         assert_eq!((counted(&[]), counted(&[0x0A, 0xB0])), ("0".into(), "2 0AB0".into()));
     }
 

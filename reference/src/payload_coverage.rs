@@ -1,9 +1,16 @@
 //! Counts what the scripts for `payloads` reached, seen from their lines and
 //! answers.
 
+mod asked;
 mod nests;
 mod required;
 mod required_nests;
+mod required_shared;
+mod rooms;
+mod set_images;
+mod shared;
+mod slots;
+mod stores;
 mod texts;
 mod unwraps;
 mod walk;
@@ -15,6 +22,7 @@ use crate::payload_scripts::Line;
 use crate::payloads;
 use crate::rows::Rows;
 use nests::Nests;
+use shared::Shared;
 use texts::Texts;
 
 #[derive(Clone, Debug, Default)]
@@ -22,6 +30,7 @@ pub struct PayloadCoverage {
     counted: Counted,
     texts: Texts,
     nests: Nests,
+    shared: Shared,
     scripts: u64,
     lines: u64,
     answers: u64,
@@ -48,8 +57,10 @@ impl PayloadCoverage {
         let text = std::str::from_utf8(&line.text).ok();
         let command =
             text.and_then(|text| payloads::parse(&text.split(' ').collect::<Vec<&str>>()));
-        self.texts.note(&mut self.counted, command.as_ref(), &head);
-        self.nests.note(&mut self.counted, command.as_ref(), answer.unwrap_or_default());
+        let (command, answer) = (command.as_ref(), answer.unwrap_or_default());
+        self.texts.note(&mut self.counted, command, &head);
+        self.nests.note(&mut self.counted, command, answer);
+        self.shared.note(&mut self.counted, &line.text, command, answer);
         self.counted.answers.count(head);
     }
 
@@ -132,19 +143,20 @@ pub(crate) fn written(answer: &str) -> Option<Vec<u8>> {
     answer.strip_prefix("wrote ")?.split(' ').nth(1).and_then(pairs)
 }
 
+/// What a script of these lines reaches.
+#[cfg(test)]
+fn coverage(lines: &[&str]) -> PayloadCoverage {
+    let (mut player, mut coverage) = (payloads::Player::default(), PayloadCoverage::default());
+    for line in lines {
+        let answer = player.play(line.as_bytes());
+        coverage.note(&Line::plain(*line), answer.as_deref());
+    }
+    coverage
+}
+
 #[cfg(test)]
 mod tests {
     use super::*;
-    use crate::payloads::Player;
-
-    fn coverage(lines: &[&str]) -> PayloadCoverage {
-        let (mut player, mut coverage) = (Player::default(), PayloadCoverage::default());
-        for line in lines {
-            let answer = player.play(line.as_bytes());
-            coverage.note(&Line::plain(*line), answer.as_deref());
-        }
-        coverage
-    }
 
     #[test]
     fn what_is_not_there_is_missing() {

@@ -1,14 +1,20 @@
 //! Seeded scripts for the program `payloads`. The generator plays its own copy of
-//! the program, so that it can read what was just written.
+//! the program, so that it can read what was just written and knows what the images
+//! of shared data have.
 
+mod images;
 mod nest;
 mod oddities;
+mod opening;
+mod sectors;
+mod series;
 mod texts;
 mod unwraps;
 mod words;
 mod wraps;
 
 pub use oddities::{Oddity, OF_HEX, OF_LEVELS, OF_LINES, OF_NUMBERS};
+pub use series::IMAGE_LINE;
 pub use words::{Line, DEPTH};
 pub use wraps::{HEADER_FIELDS, INSIDE_FIELDS, LEVEL_FIELDS};
 
@@ -17,17 +23,27 @@ use crate::language::SCRIPT_LIMIT;
 use crate::payload_coverage::{self, PayloadCoverage};
 use crate::payloads::Player;
 use crate::prng::Prng;
+use opening::OPENING;
+use series::Series;
+use words::Word;
 
 /// Of a hundred payloads and frames that were written, so many are read next.
 const READ_BACK: usize = 40;
-/// Of a hundred lines so many are of C-21, the others of C-22.
-const NESTS: usize = 38;
+/// Of a hundred other lines so many are of C-16.
+const SHARED: usize = 14;
+/// Of a hundred of those that are not so many are of C-21, the others of C-22.
+const NESTS: usize = 40;
 /// Of a hundred lines of C-21 so many unwrap.
 const UNWRAPS: usize = 65;
+/// Of a hundred lines so many are odd; those of C-22 have few words, so that fewer of
+/// them will do.
+const ODD: usize = 12;
+const ODD_TEXTS: usize = 9;
 /// A script of at most so many lines, but for those that fill it up, stays below
-/// the 1 MiB that the program plays. A line of C-22 has some 190 bytes and one of
-/// C-21, with a frame in it, some 270: so that a script has some 855,000, and what is
-/// left is for one that happens to have many lines of the longest.
+/// the 1 MiB that the program plays. A line of C-22 has some 170 bytes, one of C-21,
+/// with a frame in it, some 275, one of C-16 some 100, and the images of a script have
+/// some 160,000 digits: so that a script has some 940,000, and what is left is for one
+/// that happens to have many lines of the longest.
 pub const SCRIPT_LINES: usize = 4000;
 /// So many scripts of the first seeds reach all that has to be reached.
 #[cfg(test)]
@@ -41,93 +57,6 @@ pub const ENDS_AT_LIMIT: &str = "a line that ends at the limit";
 pub const FEED_AT_LIMIT: &str = "a line feed at the limit";
 pub const OPEN_END: &str = "a last line without a line feed";
 
-/// The lines that each script begins with: what 5.4, 5.5 and 6.10 of 003 print, and
-/// what could be read in two ways.
-const OPENING: [&str; 75] = [
-    "# texts and faults",
-    "read-display",
-    "read-display 05",
-    "read-display 0500",
-    "read-display 0501",
-    "read-display 050120",
-    "read-display 05017E",
-    "read-display 05011F",
-    "read-display 05017F",
-    "read-display 0500 ",
-    "",
-    "read-diagnostics",
-    "read-diagnostics 050607",
-    "read-diagnostics 02000000",
-    "read-diagnostics 0200000141",
-    "read-diagnostics 020000014141",
-    "write-diagnostics 4 2 0 0",
-    "write-diagnostics 3 2 0 0",
-    "write-display 2 0",
-    "write-display 1 0",
-    "write-display 0002 00255",
-    "write-display 1024 165 4f4B",
-    "write-display 1025 165 4F4B",
-    "write-display 64 256 4F4B",
-    "write-display 64 -1 4F4B",
-    "write-display 64",
-    "write-display 64 4F4B",
-    "write-diagnostics 64 1 2",
-    "write-diagnostics 64 1 2 3",
-    "write-diagnostics 64 1 2 3 4",
-    "write-diagnostics 64 1 2 3 44 44",
-    "read-display AC06",
-    "\r",
-    " # no comment",
-    "turn 64",
-    "read-display 0500\r",
-    "# messages inside messages",
-    "unwrap",
-    "unwrap 3",
-    "unwrap 3 ",
-    "unwrap 256 02FF03000000A50000003D6D",
-    "unwrap 3 02FF03000000A50000003D6D",
-    "unwrap 0 02FF03000000A50000003D6D",
-    "wrap 12 2 255 3 0 0 0 165 0 0 0",
-    "wrap 64 2 255 3 0 0 0 165 1 16 1 2 3 32 2 0 AABB",
-    "unwrap 3 02FF03000000A57E200910010203020002AABB91F0",
-    "unwrap 3 02FF03000000A57E200910010203020002AABB91F1",
-    // a message inside without payload, one byte of it missing, a length one too
-    // high, one too low
-    "unwrap 3 02FF03000000A57E000701020304050000E82D",
-    "unwrap 3 02FF03000000A57E0006010203040500DA3C",
-    "unwrap 3 02FF03000000A57E000701020304050001E62E",
-    "unwrap 3 02FF03000000A57E000801020304050000417261",
-    // 0xFE is plain, in the frame and inside; 0x7E in its place is not
-    "unwrap 3 02FF03000000A5FE000401020304B9E3",
-    "unwrap 3 02FF03000000A57E000B01020304FE000405060708CE2B",
-    "unwrap 3 02FF03000000A57E000B010203047E000405060708D2A7",
-    // four levels, and five
-    "wrap 40 2 255 3 0 0 0 165 4 1 2 3 4 5 6 7 8 9 10 11 12 13 14 15 16 17 18 19 20 21 22",
-    "unwrap 3 02FF03000000A57E051C010203047E0A15060708097E0F0E0B0C0D0E7E1407101112131516005517",
-    "unwrap 3 02FF03000000A57E0523010203047E0A1C060708097E0F150B0C0D0E7E140E101112137E16071112\
-     13141517002544",
-    // an empty fifth one, a fourth that is not whole, a second of five that is not
-    "unwrap 3 02FF03000000A57E051C010203047E0A15060708097E0F0E0B0C0D0E7E1407101112137E1600AF53",
-    "unwrap 3 02FF03000000A57E051C010203047E0A15060708097E0F0E0B0C0D0E7E1407101112137E1601AD54",
-    "unwrap 3 02FF03000000A57E0523010203047E0A1C060708097E0F140B0C0D0E7E140E101112137E16071112\
-     13141517003C2E",
-    "wrap 64 2 255 3 0 0 0 165 5 1 1 1 1 1 1 1 1 1 1 1 1 1 1 1 1 1 1 1 1 1 1 1 1 1 2 0",
-    "wrap 64 2 255 3 0 0 0 165 5 1 1 1 1 1 1 1 1 1 1 1 1 1 1 1 1 1 1 1 1 1 1 1 1 256 2 0",
-    "wrap 64 2 255 3 0 0 0 165 5 1 1 1 1 1 1 1 1 1 1 1 1 1 1 1 1 1 1 1 1 1 1 1 1 1 2",
-    "wrap 64 2 255 3 0 0 0 165 4 1 1 1 1 1 1 1 1 1 1 1 1 1 1 1 1 1 1 1 1 1 1 1 1 1 2 0",
-    "wrap 0 2 255 3 0 0 0 165 0 126 0",
-    "wrap 11 2 255 3 0 0 0 165 0 0 0",
-    "wrap 12 2 255 3 0 0 0 165 0 0 0 ",
-    "wrap 12 2 255 3 0 0 0 165 0 0 0 0",
-    "wrap 14 2 255 3 0 0 0 165 0 0 0 0 00",
-    "wrap 13 2 255 3 0 0 0 165 0 0 0 00",
-    "wrap 12 2 255 3 0 0 0 165 0 0 0041",
-    "wrap 12 2 255 3 0 0 0 165 0 0 256",
-    "wrap 12 2 255 3 0 0 0 165 18446744073709551615 0 0",
-    "wrap 12 2 255 3 0 0 0 165 18446744073709551616 0 0",
-    "wrap 012 02 0255 3 0 0 0 165 000 0 0",
-];
-
 /// What a line wrote: the payload of a message, or a whole frame.
 enum Written {
     Payload(&'static Form, Vec<u8>),
@@ -139,6 +68,7 @@ struct Generator {
     player: Player,
     /// What the last line wrote.
     written: Option<Written>,
+    series: Series,
     text: Vec<u8>,
     coverage: PayloadCoverage,
 }
@@ -151,6 +81,7 @@ pub fn script(seed: u64, count: usize) -> (Vec<u8>, PayloadCoverage) {
         rng: Prng::new(seed),
         player: Player::default(),
         written: None,
+        series: Series::default(),
         text: Vec::new(),
         coverage: PayloadCoverage::default(),
     };
@@ -192,23 +123,37 @@ impl Generator {
     }
 
     fn next_line(&mut self) -> Line {
-        if let Some(written) = self.written.take() {
-            if self.rng.chance(READ_BACK) {
-                return Line::of(&match written {
-                    Written::Payload(form, payload) => self.read_back(form, payload),
-                    Written::Frame(frame) => self.unwrap_back(frame),
-                });
-            }
+        if let Some(words) = self.words_back() {
+            return Line::of(&words);
         }
-        let words = match self.rng.chance(NESTS) {
-            true if self.rng.chance(UNWRAPS) => self.unwrap_words(),
-            true => self.wrap_words(),
-            false => self.text_words(),
+        let (words, odd) = match self.rng.chance(SHARED) {
+            true => match self.image_line() {
+                Some(line) => return line,
+                None => (self.sector_words(), ODD),
+            },
+            false if self.rng.chance(NESTS) => (self.nest_words(), ODD),
+            false => (self.text_words(), ODD_TEXTS),
         };
         match self.rng.below(100) {
-            0..=11 => oddities::odd_line(&mut self.rng, &words),
-            12 | 13 => self.passed_over(),
+            draw if draw < odd => oddities::odd_line(&mut self.rng, &words),
+            99 => self.passed_over(),
             _ => Line::of(&words),
+        }
+    }
+
+    /// What the last line wrote is often read.
+    fn words_back(&mut self) -> Option<Vec<Word>> {
+        let written = self.written.take()?;
+        self.rng.chance(READ_BACK).then(|| match written {
+            Written::Payload(form, payload) => self.read_back(form, payload),
+            Written::Frame(frame) => self.unwrap_back(frame),
+        })
+    }
+
+    fn nest_words(&mut self) -> Vec<Word> {
+        match self.rng.chance(UNWRAPS) {
+            true => self.unwrap_words(),
+            false => self.wrap_words(),
         }
     }
 
@@ -251,12 +196,13 @@ impl Generator {
     }
 }
 
-/// What this line wrote, by its answer.
+/// What this line wrote, by its answer, if there is a line that reads it.
 fn written(line: &[u8], answer: &str) -> Option<Written> {
     let bytes = payload_coverage::written(answer)?;
     match FORMS.iter().find(|form| line.starts_with(form.writer.as_bytes())) {
         Some(form) => Some(Written::Payload(form, bytes)),
-        None => Some(Written::Frame(bytes)),
+        None if line.starts_with(b"wrap") => Some(Written::Frame(bytes)),
+        None => None,
     }
 }
 

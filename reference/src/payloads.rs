@@ -1,47 +1,29 @@
-//! The program `payloads`: it plays readers and writers of payloads from text, in
-//! the language of `replay` (C-21 and C-22).
+//! The program `payloads`: it plays readers and writers of payloads, and the store of
+//! shared data, from text, in the language of `replay` (C-16, C-21 and C-22).
+
+mod command;
+
+pub use command::{parse, Command, Inside};
 
 use crate::display::{self, Diagnostics, Display};
-use crate::encapsulation::{self, Header, Level, Message, Unwrapped};
-use crate::language::{self, byte, counted, last_pairs, number, refused, room, Lines};
+use crate::encapsulation::{self, Level, Message, Unwrapped};
+use crate::images::Images;
+use crate::language::{self, counted, refused, Lines};
 use crate::refusal::Refusal;
-
-/// One line that is well formed.
-#[derive(Clone, Debug, PartialEq, Eq)]
-pub enum Command {
-    ReadDisplay { payload: Vec<u8> },
-    WriteDisplay { room: usize, node_type: u8, text: Vec<u8> },
-    ReadDiagnostics { payload: Vec<u8> },
-    WriteDiagnostics { room: usize, node_type: u8, major: u8, minor: u8, text: Vec<u8> },
-    Unwrap { subnet: u8, frame: Vec<u8> },
-    Wrap { room: usize, header: Header, levels: Vec<Level>, inside: Inside },
-}
-
-/// The message inside all levels of a line that wraps.
-#[derive(Clone, Debug, PartialEq, Eq)]
-pub struct Inside {
-    pub message_type: u8,
-    pub packet: u8,
-    pub payload: Vec<u8>,
-}
-
-impl Inside {
-    pub fn message(&self) -> Message<'_> {
-        let Inside { message_type, packet, ref payload } = *self;
-        Message { message_type, packet, payload }
-    }
-}
+use crate::shared::Held;
 
 /// Plays a script line by line.
 #[derive(Default)]
 pub struct Player {
+    pub images: Images,
     lines: Lines,
 }
 
 impl Player {
     /// The answer to the next line, or none for an empty line or a comment.
     pub fn play(&mut self, line: &[u8]) -> Option<String> {
-        self.lines.answer(line, |words| parse(words).map(|command| run(&command)))
+        let images = &mut self.images;
+        self.lines.answer(line, |words| parse(words).map(|command| run(images, command)))
     }
 }
 
@@ -51,97 +33,37 @@ pub fn play_all(script: &[u8]) -> String {
     language::play_all(script, |line| player.play(line))
 }
 
-/// None if the words are none of the program's lines.
-pub fn parse(words: &[&str]) -> Option<Command> {
-    match *words {
-        ["read-display", ref rest @ ..] => {
-            Some(Command::ReadDisplay { payload: last_pairs(rest)? })
-        }
-        ["write-display", size, node_type, ref rest @ ..] => Some(Command::WriteDisplay {
-            room: room(size)?,
-            node_type: byte(node_type)?,
-            text: last_pairs(rest)?,
-        }),
-        ["read-diagnostics", ref rest @ ..] => {
-            Some(Command::ReadDiagnostics { payload: last_pairs(rest)? })
-        }
-        ["write-diagnostics", size, node_type, major, minor, ref rest @ ..] => {
-            Some(Command::WriteDiagnostics {
-                room: room(size)?,
-                node_type: byte(node_type)?,
-                major: byte(major)?,
-                minor: byte(minor)?,
-                text: last_pairs(rest)?,
-            })
-        }
-        ["unwrap", subnet, ref rest @ ..] => {
-            Some(Command::Unwrap { subnet: byte(subnet)?, frame: last_pairs(rest)? })
-        }
-        ["wrap", size, ref rest @ ..] => parse_wrap(room(size)?, rest),
-        _ => None,
-    }
-}
-
-/// C-21: the header of seven bytes, DEPTH, so many levels, the message inside.
-fn parse_wrap(room: usize, words: &[&str]) -> Option<Command> {
-    let (header, words) = bytes_of::<7>(words)?;
-    let (depth, words) = words.split_first()?;
-    let (levels, words) = parse_levels(number(depth)?, words)?;
-    let ([message_type, packet], rest) = bytes_of(words)?;
-    let inside = Inside { message_type, packet, payload: last_pairs(rest)? };
-    Some(Command::Wrap { room, header: header_of(header), levels, inside })
-}
-
-/// Any depth that sixty-four bits hold is a number of the language; where a line
-/// has not so many levels, it is the line that is bad.
-fn parse_levels<'a, 'b>(
-    depth: u64,
-    mut words: &'a [&'b str],
-) -> Option<(Vec<Level>, &'a [&'b str])> {
-    let mut levels = Vec::new();
-    for _ in 0..depth {
-        let ([code, first, second, third, packet], rest) = bytes_of(words)?;
-        levels.push(Level { code, operands: [first, second, third], packet });
-        words = rest;
-    }
-    Some((levels, words))
-}
-
-/// N numbers of one byte each, and what follows them.
-fn bytes_of<'a, 'b, const N: usize>(words: &'a [&'b str]) -> Option<([u8; N], &'a [&'b str])> {
-    let (front, rest) = (words.get(..N)?, &words[N..]);
-    let mut bytes = [0; N];
-    for (place, word) in bytes.iter_mut().zip(front) {
-        *place = byte(word)?;
-    }
-    Some((bytes, rest))
-}
-
-fn header_of(bytes: [u8; 7]) -> Header {
-    let [destination, source, subnet, method, parameter1, parameter2, node_type] = bytes;
-    Header { destination, source, subnet, method, parameter1, parameter2, node_type }
-}
-
-fn run(command: &Command) -> String {
+fn run(images: &mut Images, command: Command) -> String {
     let answer = match command {
-        Command::ReadDisplay { payload } => display::read_display(payload).map(tell_display),
+        Command::ReadDisplay { payload } => display::read_display(&payload).map(tell_display),
         Command::WriteDisplay { room, node_type, text } => {
-            let display = Display { node_type: *node_type, text };
-            wrote(*room, |out| display::write_display(&display, out))
+            let display = Display { node_type, text: &text };
+            wrote(room, |out| display::write_display(&display, out))
         }
         Command::ReadDiagnostics { payload } => {
-            display::read_diagnostics(payload).map(tell_diagnostics)
+            display::read_diagnostics(&payload).map(tell_diagnostics)
         }
         Command::WriteDiagnostics { room, node_type, major, minor, text } => {
-            let (node_type, major, minor) = (*node_type, *major, *minor);
-            let fault = Diagnostics { node_type, major, minor, text };
-            wrote(*room, |out| display::write_diagnostics(&fault, out))
+            let fault = Diagnostics { node_type, major, minor, text: &text };
+            wrote(room, |out| display::write_diagnostics(&fault, out))
         }
         Command::Unwrap { subnet, frame } => {
-            encapsulation::unwrap(frame, *subnet).map(tell_unwrapped)
+            encapsulation::unwrap(&frame, subnet).map(tell_unwrapped)
         }
         Command::Wrap { room, header, levels, inside } => {
-            wrote(*room, |out| encapsulation::wrap(header, levels, &inside.message(), out))
+            wrote(room, |out| encapsulation::wrap(&header, &levels, &inside.message(), out))
+        }
+        Command::Image { source, bytes } => {
+            let count = bytes.len();
+            images.set(source, bytes);
+            Ok(format!("image {count}"))
+        }
+        Command::Store { sector, record } => {
+            images.store(sector, &record).map(|slot| format!("stored {slot}"))
+        }
+        Command::Fetch { sector } => images.fetch(sector).map(tell_held),
+        Command::WriteAnswer { room, sector } => {
+            wrote(room, |out| images.write_answer(sector, out))
         }
     };
     answer.unwrap_or_else(refused)
@@ -169,6 +91,13 @@ fn tell_level(level: &Level) -> String {
     format!(" {code} {first} {second} {third} {packet}")
 }
 
+fn tell_held(held: Option<Held<'_>>) -> String {
+    match held {
+        Some(held) => format!("{} {}", held.source.name(), counted(held.record)),
+        None => "none".to_string(),
+    }
+}
+
 /// Lends so much room to a writer and tells what it wrote there.
 fn wrote(
     room: usize,
@@ -181,6 +110,7 @@ fn wrote(
 #[cfg(test)]
 mod tests {
     use super::*;
+    use crate::shared::SOURCES;
 
     /// The answer to a line.
     fn answer(line: &str) -> String {
@@ -196,6 +126,11 @@ mod tests {
             ("write-diagnostics 6 5 6 7 4869", "wrote 6 050607024869"),
             ("unwrap 3 02FF03000000A50000003D6D", "plain 0 0 0 0"),
             ("wrap 12 2 255 3 0 0 0 165 0 0 0", "wrote 12 02FF03000000A50000003D6D"),
+            ("image network 0506", "image 2"),
+            ("image factory 0506", "image 2"),
+            ("store 5 060102030405", "stored 1"),
+            ("fetch 5", "none"),
+            ("write-answer 0 5", "wrote 0"),
         ];
         for (line, expected) in answers {
             assert_eq!(answer(line), expected);
@@ -213,6 +148,9 @@ mod tests {
             ("write-diagnostics 4 5 6 7", "wrote 4 05060700"),
             ("unwrap 3", "refuse 1"),
             ("wrap 18 2 255 3 0 0 0 165 1 1 2 3 4 5 6 7", "refuse 11"),
+            ("image network", "image 0"),
+            ("image factory", "image 0"),
+            ("store 5", "refuse 26"),
         ];
         for (line, expected) in answers {
             assert_eq!(answer(line), expected);
@@ -319,6 +257,71 @@ mod tests {
         ];
         for line in lines {
             assert_eq!(answer(line), "bad line 1", "{line}");
+        }
+    }
+
+    #[test]
+    fn lines_of_shared_data_that_are_none_are_bad() {
+        let lines = [
+            "image",
+            "image ",
+            "image network ",
+            "image network 0",
+            "image network 00 00",
+            "image Network 00",
+            "image network  00",
+            "image both 00",
+            "image 00",
+            "store",
+            "store 256",
+            "store 5 ",
+            "store 5 0",
+            "store 5 00 00",
+            "store 010203040506",
+            "fetch",
+            "fetch ",
+            "fetch 256",
+            "fetch 5 ",
+            "fetch 5 05",
+            "fetch -5",
+            "write-answer",
+            "write-answer 7",
+            "write-answer 1025 5",
+            "write-answer 7 256",
+            "write-answer 7 5 ",
+            "write-answer 7 5 05",
+        ];
+        for line in lines {
+            assert_eq!(answer(line), "bad line 1", "{line}");
+        }
+    }
+
+    /// What a script leaves in the two images.
+    fn left(script: &str) -> [Vec<u8>; 2] {
+        let mut player = Player::default();
+        script.lines().for_each(|line| drop(player.play(line.as_bytes())));
+        SOURCES.map(|source| player.images.of(source).to_vec())
+    }
+
+    #[test]
+    fn images_last_until_a_line_changes_them() {
+        assert_eq!(left(""), [vec![0; 8080], vec![0; 8080]]);
+        let other = "read-display 0500\nwrap 12 2 255 3 0 0 0 165 0 0 0\n\n# fetch 5";
+        let script = format!("image factory 0708\n{other}\nimage network 05");
+        assert_eq!(left(&script), [vec![5], vec![7, 8]]);
+        let [network, factory] = left("image factory 0708\nstore 5 060102030405\nfetch 5");
+        assert_eq!((&network[..9], factory), (&[5, 6, 6, 1, 2, 3, 4, 5, 0][..], vec![7, 8]));
+    }
+
+    #[test]
+    fn a_line_that_is_bad_or_refused_changes_no_image() {
+        let before = left("store 5 060102030405");
+        let long = format!("image network {}", "00".repeat(16_385));
+        let record = format!("store 5 {}", "00".repeat(1025));
+        let lines = ["image network 0G", "image factory 000", "image network 00 ", &long, &record];
+        let refused = ["store 5 0102030405", "store 5", "store 6 0", "fetch 5", "write-answer 6 5"];
+        for line in lines.iter().chain(&refused) {
+            assert_eq!(left(&format!("store 5 060102030405\n{line}")), before, "{line}");
         }
     }
 }

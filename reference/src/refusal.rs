@@ -26,6 +26,8 @@ pub enum Refusal {
     StateUnfit = 22,
     NotDiscovering = 23,
     OtherSubnet = 24,
+    BadLength = 26,
+    NoSlot = 27,
     BadInner = 30,
     TooDeep = 31,
     BadTextLength = 32,

@@ -88,6 +88,20 @@ fn the_gate_tells_a_shrunk_mismatch_of_payloads() {
     assert!(folder.file("mismatch-payloads.txt").starts_with("write-"));
 }
 
+/// A line that hangs on another one is left with it.
+#[test]
+fn the_gate_tells_a_shrunk_mismatch_of_shared_data() {
+    let folder = Folder::new("shared");
+    let slip = folder.slip(PAYLOADS, "s/^factory /network /");
+    let output = folder.compare(REPLAY, &slip, &["gate", "0", "0", "1"]);
+    let text = text(&output);
+    assert!(text.contains(" to 2 by "), "{text}");
+    assert!(text.contains("\n  ours       network ") && text.contains("\n  reference  factory "));
+    let left = folder.file("mismatch-payloads.txt");
+    let names: Vec<&str> = left.lines().map(|line| line.split(' ').next().unwrap()).collect();
+    assert_eq!(names, ["image", "fetch"]);
+}
+
 #[test]
 fn a_soak_ends_in_time_with_a_summary() {
     let folder = Folder::new("soak");

@@ -1,6 +1,6 @@
 //! Set Display and Set Diagnostics (003, 5.4 and 5.5; C-22) and the program
-//! `payloads`, with the lines of C-21 too; answers are worked out by hand from the
-//! tables.
+//! `payloads`, with the lines of C-16 and C-21 too; answers are worked out by hand
+//! from the tables.
 
 use reference::display::{self, Diagnostics, Display};
 use reference::display::{read_diagnostics, read_display, write_diagnostics, write_display};
@@ -472,9 +472,57 @@ const UNWRAP_FOUR: &str = "unwrap 3 02FF03000000A57E051C010203047E0A15060708097E
 const UNWRAP_FIVE: &str = "unwrap 3 02FF03000000A57E0523010203047E0A1C060708097E0F15\
                            0B0C0D0E7E140E101112137E1607111213141517002544";
 
+/// The records of the tests of shared data, as lines. Each script begins with blank
+/// images.
+const SHARED: [(&str, &str); 43] = [
+    ("fetch 2", "none"),
+    ("write-answer 0 2", "wrote 0"),
+    ("# Table 22, then Table 25", ""),
+    ("store 2 090201040302D1D2D3", "stored 1"),
+    ("fetch 2", "network 9 090201040302D1D2D3"),
+    ("write-answer 10 2", "wrote 10 02090201040302D1D2D3"),
+    ("write-answer 9 2", "refuse 11"),
+    ("write-answer 0 2", "refuse 11"),
+    ("write-answer 0 3", "wrote 0"),
+    ("store 4 060504030201", "stored 2"),
+    ("store 2 010203040506", "stored 1"),
+    ("fetch 002", "network 6 010203040506"),
+    ("fetch 4", "network 6 060504030201"),
+    ("# too short, and no record at all", ""),
+    ("store 2 0102030405", "refuse 26"),
+    ("store 2", "refuse 26"),
+    ("fetch 2", "network 6 010203040506"),
+    ("", ""),
+    ("store 2 ", "bad line 19"),
+    ("store 256 010203040506", "bad line 20"),
+    ("store 2 01020304050", "bad line 21"),
+    ("store", "bad line 22"),
+    ("fetch", "bad line 23"),
+    ("fetch 2 02", "bad line 24"),
+    ("write-answer 10", "bad line 25"),
+    ("write-answer 1025 2", "bad line 26"),
+    ("image both 00", "bad line 27"),
+    ("image network 0", "bad line 28"),
+    ("fetch 2", "network 6 010203040506"),
+    ("# a factory image of another size is not for a store to look at", ""),
+    ("image factory", "image 0"),
+    ("store 5 0a0B0C0D0E0F", "stored 3"),
+    ("fetch 5", "refuse 22"),
+    ("write-answer 0 5", "refuse 22"),
+    ("write-answer 7 6", "refuse 22"),
+    ("# a copy of another size is", ""),
+    ("image network 0506060504030201", "image 8"),
+    ("store 5 0A0B0C0D0E0F", "refuse 22"),
+    ("store 5", "refuse 22"),
+    ("fetch 5", "refuse 22"),
+    ("read-display 0900", "display 9 0"),
+    ("image network", "image 0"),
+    ("store 5 0A0B0C0D0E0F", "refuse 22"),
+];
+
 #[test]
 fn lines_are_answered_as_worked_out() {
-    for lines in [&LINES[..], &WRAPPED] {
+    for lines in [&LINES[..], &WRAPPED, &SHARED] {
         let script: String = lines.iter().map(|(line, _)| format!("{line}\n")).collect();
         let answered = lines.iter().filter(|(_, answer)| !answer.is_empty());
         let answers: String = answered.map(|(_, answer)| format!("{answer}\n")).collect();
@@ -497,6 +545,60 @@ fn the_longest_hex_is_a_line() {
         assert_eq!(play_all(line(1024).as_bytes()), refused);
         assert_eq!(play_all(line(1025).as_bytes()), "bad line 1\n");
     }
+}
+
+/// An image's HEX may be longer than others: 16,384 bytes are taken, 16,385 are no
+/// line, and then the image stays. A record's may not.
+#[test]
+fn the_longest_image_is_a_line() {
+    let stored = |name: &str, size: usize| {
+        let image = format!("image {name} {}", "FF".repeat(size));
+        play_all(format!("{}\nstore 5 010203040506\n", image.trim_end()).as_bytes())
+    };
+    for size in [0, 1, 8079, 8080, 8081, 16_383, 16_384] {
+        let network = if size == 8080 { "stored 1" } else { "refuse 22" };
+        assert_eq!(stored("network", size), format!("image {size}\n{network}\n"));
+        assert_eq!(stored("factory", size), format!("image {size}\nstored 1\n"));
+    }
+    for name in ["network", "factory"] {
+        assert_eq!(stored(name, 16_385), "bad line 1\nstored 1\n");
+    }
+    let record = |bytes: usize| format!("store 5 {}", "41".repeat(bytes));
+    assert_eq!(play_all(record(1024).as_bytes()), "refuse 26\n");
+    assert_eq!(play_all(record(1025).as_bytes()), "bad line 1\n");
+}
+
+/// Slot 1 of the factory image has sector 6, slot 1 of the network's copy sector 7,
+/// each with 6 bytes; what is stored for sector 6 then hides the factory's, until the
+/// network's copy is set again.
+#[test]
+fn a_line_sets_one_image_whole() {
+    let image = |name: &str, front: &str| {
+        format!("image {name} {front}{}\n", "00".repeat(8080 - front.len() / 2))
+    };
+    let factory = image("factory", "0606F1F2F3F4F5F6");
+    let network = image("network", "0706A1A2A3A4A5A6");
+    let asked = "fetch 6\nfetch 7\nwrite-answer 7 6\nwrite-answer 7 7\n";
+    let script = format!("{factory}{network}{asked}store 6 B1B2B3B4B5B6\n{asked}{network}{asked}");
+    let served = "factory 6 F1F2F3F4F5F6\nnetwork 6 A1A2A3A4A5A6\n\
+                  wrote 7 06F1F2F3F4F5F6\nwrote 7 07A1A2A3A4A5A6\n";
+    let hidden = "stored 2\nnetwork 6 B1B2B3B4B5B6\nnetwork 6 A1A2A3A4A5A6\n\
+                  wrote 7 06B1B2B3B4B5B6\nwrote 7 07A1A2A3A4A5A6\n";
+    let answers = format!("image 8080\nimage 8080\n{served}{hidden}image 8080\n{served}");
+    assert_eq!(play_all(script.as_bytes()), answers);
+    assert_eq!(played(script.as_bytes()), answers);
+}
+
+/// Forty sectors fill the network's copy; one of them can still be replaced.
+#[test]
+fn forty_sectors_are_stored_and_no_more() {
+    let store = |sector: usize| format!("store {sector} 0102030405{sector:02X}\n");
+    let mut script: String = (0..41).map(store).collect();
+    script.push_str("store 39 FFFFFFFFFFFFFF\nfetch 39\nfetch 40\nstore 40 0102030405\n");
+    let mut answers: String = (1..=40).map(|slot| format!("stored {slot}\n")).collect();
+    answers.push_str("refuse 27\nstored 40\nnetwork 7 FFFFFFFFFFFFFF\nnone\nrefuse 26\n");
+    assert_eq!(play_all(script.as_bytes()), answers);
+    assert_eq!(played(script.as_bytes()), answers);
 }
 
 /// A line that wraps, up to its HEX.

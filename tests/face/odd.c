@@ -1,15 +1,16 @@
 /*
  * Odd inputs through include/nadrelgos.h: records that are not fit, any frames in the exchange by which a board joins
  * (frames.c), every wrong index (indexes.c), texts and faults of every form (texts.c), messages inside messages of
- * every form (inside.c), counts of records other than forty, event numbers that are none, a setup over whatever stood
- * there, changes and positions that are none. What each call answers and leaves is known: records that were lent are
- * held to it field by field, and all else byte by byte. The calls are the same each time. A line is printed for each
- * check, and the exit status is 1 where one fails.
+ * every form (inside.c), shared data in images of every kind (shared.c), counts of records other than forty, event
+ * numbers that are none, a setup over whatever stood there, changes and positions that are none. What each call answers
+ * and leaves is known: records that were lent are held to it field by field, and all else byte by byte. The calls are
+ * the same each time. A line is printed for each check, and the exit status is 1 where one fails.
  */
 #include "checks.h"
 #include "frames.h"
 #include "indexes.h"
 #include "inside.h"
+#include "shared.h"
 #include "texts.h"
 
 #include <string.h>
@@ -415,5 +416,12 @@ int main(void) {
     wraps_every_depth();
     wraps_into_every_room();
     wraps_every_byte();
+    shares_images_of_every_size();
+    shares_every_sector();
+    stores_every_length();
+    shares_every_length_byte();
+    answers_into_every_room();
+    stores_one_after_another();
+    shares_any_bytes();
     return some_failed();
 }

@@ -85,6 +85,18 @@ def texts_are_shown(panel, boards, homes):
         place += 1
 
 
+def shared_data_is_served(panel, boards, homes):
+    """The furnace has its settings stored, and is served them when it asks; for the thermostat's type nothing was stored."""
+    record, place = "0B 01 00 01 00 02 34 35 20 33 30", panel.place()
+    for name, order, message, text in ("furnace", "store furnace 45 30", 16, f"sector 2 stored in slot 1, 11 bytes: {record}"), \
+                                      ("furnace", "fetch furnace", 17, f"sector 2 served from the network's copy, slot 1, 12 bytes: 02 {record}"), \
+                                      ("thermostat", "fetch thermostat", 17, "sector 1 has no record in either image: an empty payload"):
+        boards.order(order)
+        place, event = panel.event("delivered", place, position=homes[name]["position"], message=message)
+        check(event["text"] == "for the host: " + text, f"{order} is shown as {event['text']}")
+        place += 1
+
+
 def single_misses_drop_nobody(panel, boards, homes):
     """Forty misses of the furnace, one or two in a row, with an answer after each."""
     position, place = homes["furnace"]["position"], panel.place()
@@ -330,6 +342,7 @@ def main():
     homes = all_are_found(panel, boards)
     heat_is_carried(panel, boards, homes)
     texts_are_shown(panel, boards, homes)
+    shared_data_is_served(panel, boards, homes)
     single_misses_drop_nobody(panel, boards, homes)
     another_system_is_not_heard(panel, boards, homes)
     unplugged_is_dropped(panel, boards, homes)

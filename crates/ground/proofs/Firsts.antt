@@ -126,6 +126,13 @@ none-is d p a n h = go (first-case d p a n)
     go (inl (none, e)) = e
     go (inr f) = absurd (false≢true (sym (h _ (f .from) (f .within)) ∙ f .passes))
 
+-- two tests that agree on each number find the same first
+pub first-same : (d : ℕ) (p q : ℕ → Bool) (a n : ℕ) → ((i : ℕ) → a ≤ i → i < a + n → p i ≡ q i) → firstOr d p (upFrom a n) ≡ firstOr d q (upFrom a n)
+unfolding firstOr upFrom
+first-same d p q a zero h = refl
+first-same d p q a (suc n) h =
+    rw (h a (omega arith) (omega arith), first-same d p q (a + 1) n (λ i l u. h i (omega arith) (omega arith))) refl
+
 -- the first that passes, with one number more
 pub first-more : (p : ℕ → Bool) (i : ℕ) → firstOr 0 p (upFrom 1 (suc i)) ≡ choose (eqb (firstOr 0 p (upFrom 1 i)) 0 && p (suc i)) (suc i) (firstOr 0 p (upFrom 1 i))
 first-more p i = go (first-case 0 p 1 i) (p (suc i)) refl

@@ -25,6 +25,12 @@ run-map-at f a zero i d h = absurd (let z : ⊥ = omega arith in z)
 run-map-at f a (suc n) zero d h = ap f (let e : a ≡ a + 0 = omega arith in e)
 run-map-at f a (suc n) (suc i) d h = run-map-at f (a + 1) n i d (omega arith) ∙ ap f (let e : a + 1 + i ≡ a + suc i = omega arith in e)
 
+-- two functions that agree on each number make the same of them
+run-map-same {ℓ} : {A : Type ℓ} (f g : ℕ → A) (a n : ℕ) → ((i : ℕ) → a ≤ i → i < a + n → f i ≡ g i) → map f (upFrom a n) ≡ map g (upFrom a n)
+unfolding upFrom
+run-map-same f g a zero h = refl
+run-map-same f g a (suc n) h = rw (h a (omega arith) (omega arith), run-map-same f g (a + 1) n (λ i l u. h i (omega arith) (omega arith))) refl
+
 -- the part from a place to the end, as code cuts it, is all that comes after that place
 pub rest-is : (l : List ℕ) (a : ℕ) → take (length l - a) (drop a l) ≡ drop a l
 rest-is l a = take-all (length l - a) (drop a l) (simp length-drop (omega arith))
@@ -38,6 +44,11 @@ pub run-read : (l : List ℕ) (a n : ℕ) → a + n ≤ length l → take n (dro
 unfolding upFrom
 run-read l a zero h = refl
 run-read l a (suc n) h = rw (drop-cons l a 0 (omega arith)) (ap (λ (r : List ℕ). getD l a 0 ∷ r) (rw (← (add-one a)) (run-read l (a + 1) n (omega arith))))
+
+-- two parts at one place are the same where their bytes are
+pub run-alike : (l m : List ℕ) (a n : ℕ) → a + n ≤ length l → a + n ≤ length m → ((i : ℕ) → a ≤ i → i < a + n → getD l i 0 ≡ getD m i 0) → take n (drop a l) ≡ take n (drop a m)
+run-alike l m a n hl hm same =
+    run-read l a n hl ∙ run-map-same (λ i. getD l i 0) (λ i. getD m i 0) a n same ∙ sym (run-read m a n hm)
 
 -- a list of one value has it everywhere, and so has what is past its end
 pub run-same {ℓ} : {A : Type ℓ} (a : A) (n i : ℕ) → getD (replicate n a) i a ≡ a

@@ -95,3 +95,28 @@ pub(crate) fn written(writing: Writing, out: &[u8]) {
         Writing::Refused(refusal) => refused(refusal),
     }
 }
+
+// image COUNT
+pub(crate) fn image(count: usize) {
+    write(b"image");
+    write_spaced(count as u64);
+    write(b"\n");
+}
+
+// stored SLOT
+pub(crate) fn stored(slot: usize) {
+    write(b"stored");
+    write_spaced(slot as u64);
+    write(b"\n");
+}
+
+// network COUNT HEX, or factory COUNT HEX
+pub(crate) fn fetched(image: &[u8], bytes: &[u8]) {
+    write(image);
+    write_counted(bytes);
+}
+
+// none
+pub(crate) fn none() {
+    write(b"none\n");
+}

@@ -1,5 +1,7 @@
-// Plays payloads and messages inside messages that are read and written, a line at a time, and answers each line (docs/PAYLOADS.md has the lines).
+// Plays payloads and messages inside messages that are read and written, and shared data that is stored and served, a line at a time, and
+// answers each line (docs/PAYLOADS.md has the lines).
 mod answer;
+mod images;
 mod levels;
 mod order;
 
@@ -7,6 +9,7 @@ use display::Diagnostics;
 use display::Display;
 use encapsulation::Inside;
 use frame::Writing;
+use images::Sizes;
 use libc::STDIN_FILENO;
 use order::Order;
 use order::Written;
@@ -75,7 +78,13 @@ fn write(what: Written, line: &[u8], bytes: &[u8], out: &mut [u8]) {
 }
 
 // Plays one line and answers it.
-fn play_line(line: &[u8], number: u64) {
+fn play_line(
+    line: &[u8],
+    number: u64,
+    network: &mut [u8],
+    factory: &mut [u8],
+    sizes: Sizes,
+) -> Sizes {
     let mut bytes = [0u8; 1024];
     let order = order::read_line(line, &mut bytes);
     match order {
@@ -98,19 +107,30 @@ fn play_line(line: &[u8], number: u64) {
             let m = script::within(room, &out);
             write(what, line, &bytes[..n], &mut out[..m]);
         }
+        Order::Shared { asked, count } => {
+            let n = script::within(count, &bytes);
+            return images::play(asked, line, number, &bytes[..n], network, factory, sizes);
+        }
         Order::Bad => answer::bad(number),
     }
+    sizes
 }
 
-// Plays the lines from first to last.
+// Plays the lines from first to last, on images that begin blank.
 fn play(lines: &[u8]) {
+    let mut network = images::blank();
+    let mut factory = images::blank();
+    let mut sizes = Sizes {
+        network: shared::IMAGE,
+        factory: shared::IMAGE,
+    };
     let mut number: u64 = 0;
     let mut at: usize = 0;
     while at < lines.len() {
         let rest = &lines[at..];
         let n = script::before(rest, b'\n');
         number += 1;
-        play_line(&rest[..n], number);
+        sizes = play_line(&rest[..n], number, &mut network, &mut factory, sizes);
         let end = at + n;
         at = end + 1;
     }

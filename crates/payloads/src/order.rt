@@ -1,7 +1,8 @@
-// What a line asks for, read off its words before anything is played.
+// What a line asks for, read off its words before anything is played; an image's bytes alone are read when it is (images.rt).
+use crate::images::Asked;
 use frame::Header;
 
-// What a line asks for; the payload, the text or the frame stands in the bytes beside it, as many as it says.
+// What a line asks for; the payload, the text, the frame or the record stands in the bytes beside it, as many as it says.
 pub(crate) enum Order {
     Pass,
     ReadDisplay {
@@ -18,6 +19,10 @@ pub(crate) enum Order {
         room: usize,
         count: usize,
         what: Written,
+    },
+    Shared {
+        asked: Asked,
+        count: usize,
     },
     Bad,
 }
@@ -177,6 +182,78 @@ fn wrap(line: &[u8], bytes: &mut [u8]) -> Order {
     }
 }
 
+// image network HEX, image factory HEX
+fn image(line: &[u8]) -> Order {
+    if line.len() < 6 {
+        return Order::Bad;
+    }
+    let rest = &line[6..];
+    let n = script::before(rest, b' ');
+    let word = &rest[..n];
+    let at = 6 + n + 1;
+    if script::same(word, b"network") {
+        return Order::Shared {
+            asked: Asked::SetNetwork { at: at },
+            count: 0,
+        };
+    }
+    if script::same(word, b"factory") {
+        return Order::Shared {
+            asked: Asked::SetFactory { at: at },
+            count: 0,
+        };
+    }
+    Order::Bad
+}
+
+// store SECTOR HEX
+fn store(line: &[u8], bytes: &mut [u8]) -> Order {
+    let sector = script::field_at(line, 6, 255);
+    let record = script::bytes_from(line, sector.next, bytes);
+    if sector.ok & record.ok {
+        Order::Shared {
+            asked: Asked::Store {
+                sector: script::byte(sector.value),
+            },
+            count: record.value,
+        }
+    } else {
+        Order::Bad
+    }
+}
+
+// fetch SECTOR
+fn fetch(line: &[u8]) -> Order {
+    let sector = script::field_at(line, 6, 255);
+    if sector.ok & (line.len() < sector.next) {
+        Order::Shared {
+            asked: Asked::Fetch {
+                sector: script::byte(sector.value),
+            },
+            count: 0,
+        }
+    } else {
+        Order::Bad
+    }
+}
+
+// write-answer ROOM SECTOR
+fn write_answer(line: &[u8]) -> Order {
+    let room = script::field_at(line, 13, 1024);
+    let sector = script::field_at(line, room.next, 255);
+    if room.ok & sector.ok & (line.len() < sector.next) {
+        Order::Shared {
+            asked: Asked::Answer {
+                room: room.value as usize,
+                sector: script::byte(sector.value),
+            },
+            count: 0,
+        }
+    } else {
+        Order::Bad
+    }
+}
+
 fn read_words(line: &[u8], bytes: &mut [u8]) -> Order {
     let n = script::before(line, b' ');
     let word = &line[..n];
@@ -197,6 +274,18 @@ fn read_words(line: &[u8], bytes: &mut [u8]) -> Order {
     }
     if script::same(word, b"wrap") {
         return wrap(line, bytes);
+    }
+    if script::same(word, b"image") {
+        return image(line);
+    }
+    if script::same(word, b"store") {
+        return store(line, bytes);
+    }
+    if script::same(word, b"fetch") {
+        return fetch(line);
+    }
+    if script::same(word, b"write-answer") {
+        return write_answer(line);
     }
     Order::Bad
 }

@@ -1,4 +1,4 @@
-// The numbers by which the panel refuses. A refusal is a case; the rule book's number is `number`. 17 is retired, and 25 to 29 are none's yet.
+// The numbers by which the panel refuses. A refusal is a case; the rule book's number is `number`. 17 is retired, and 25, 28 and 29 are none's yet.
 ghost use mathlib.Core.Path.{_≡_};
 ghost use Rattle.refusal.specs.Refusal.{numberOf};
 
@@ -43,12 +43,16 @@ pub enum Refusal {
     NotWaiting,
     // 21: pool not as the rules say
     BadPool,
-    // 22: lent state or table not fit
+    // 22: lent state or table not fit; an image of shared data of another size
     StateUnfit,
     // 23: a response of types 0xF9 to 0xFB while no exchange by which a board joins runs
     NotDiscovering,
     // 24: a good frame whose subnet is neither ours nor 0
     OtherSubnet,
+    // 26: a record of shared data under 6 bytes or over 200
+    BadLength,
+    // 27: a record of a new sector, every slot in use
+    NoSlot,
     // 30: an encapsulation whose payload is not code, operands and one whole message
     BadInner,
     // 31: an encapsulation inside four others; more than four levels to be written
@@ -87,6 +91,8 @@ pub fn number(refusal: Refusal) -> u8
         Refusal::StateUnfit => 22,
         Refusal::NotDiscovering => 23,
         Refusal::OtherSubnet => 24,
+        Refusal::BadLength => 26,
+        Refusal::NoSlot => 27,
         Refusal::BadInner => 30,
         Refusal::TooDeep => 31,
         Refusal::BadTextLength => 32,

@@ -22,6 +22,8 @@ void order_noise(struct house *house, const struct order *order);
 void order_heat(struct house *house, const struct order *order);
 void order_display(struct house *house, const struct order *order);
 void order_fault(struct house *house, const struct order *order);
+void order_store(struct house *house, const struct order *order);
+void order_fetch(struct house *house, const struct order *order);
 void order_boards(struct house *house, const struct order *order);
 
 /* The board of that name. NULL where there is none, which is then answered. */

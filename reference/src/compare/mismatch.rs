@@ -155,6 +155,7 @@ mod tests {
     use super::super::sides::Reference;
     use super::super::task::Task;
     use super::*;
+    use std::sync::atomic::{AtomicUsize, Ordering};
 
     /// Says that a board stays where it is dropped, lists no frame of message
     /// type 9, tells a bad length of a bad text, and plays no line that is not
@@ -184,8 +185,12 @@ mod tests {
         told_by(&Slips, task, file)
     }
 
+    /// Each is told in a folder of its own.
+    static TOLD: AtomicUsize = AtomicUsize::new(0);
+
     fn told_by(side: &dyn Side, task: &Task, file: &str) -> (String, Vec<u8>) {
-        let name = format!("told-{}-{}-{file}", std::process::id(), task.seed);
+        let number = TOLD.fetch_add(1, Ordering::Relaxed);
+        let name = format!("told-{}-{number}", std::process::id());
         let folder = std::env::temp_dir().join(name);
         fs::create_dir_all(&folder).unwrap();
         let mismatch = task.run(side).unwrap().1.unwrap();
@@ -230,6 +235,60 @@ mod tests {
         let (text, left) = told(&task, "mismatch-payloads.txt");
         assert_eq!(left, PLAIN_PAYLOAD, "{text}");
         assert!(text.contains("shrunk from 301 lines to 1 by "), "{text}");
+    }
+
+    /// Answers as this implementation, but for one head of an answer.
+    struct Renames(&'static str, &'static str);
+
+    impl Side for Renames {
+        fn answer(&self, sort: Sort, input: &[u8]) -> io::Result<String> {
+            let renamed = |line: &str| match line.strip_prefix(self.0) {
+                Some(rest) => format!("{}{rest}\n", self.1),
+                None => format!("{line}\n"),
+            };
+            Ok(Reference.answer(sort, input)?.lines().map(renamed).collect())
+        }
+    }
+
+    /// The lines that are left of a payload script, by their first two words.
+    fn left_by(side: &dyn Side, seed: u64) -> (String, Vec<String>) {
+        let task = Task { seed, payload_lines: 4000, ..Task::default() };
+        let (text, left) = told_by(side, &task, "mismatch-payloads.txt");
+        let words = |line: &str| line.split(' ').take(2).collect::<Vec<_>>().join(" ");
+        (text, String::from_utf8(left).unwrap().lines().map(words).collect())
+    }
+
+    #[test]
+    fn what_hangs_on_an_image_is_shrunk_to_both() {
+        for seed in [5, 6] {
+            let (text, left) = left_by(&Renames("factory", "network"), seed);
+            let asks = left[1].starts_with("fetch ");
+            assert!(left.len() == 2 && left[0] == "image factory" && asks, "{text}");
+            assert!(text.contains(" bytes more)\n  fetch "), "{text}");
+        }
+    }
+
+    /// What a line finds may be there by a line that stored it, or by an image line.
+    #[test]
+    fn what_hangs_on_a_record_is_shrunk_to_both() {
+        for seed in [5, 6] {
+            let (text, left) = left_by(&Renames("network", "factory"), seed);
+            let sector = left[1].strip_prefix("fetch ").unwrap_or_default();
+            let stored = left[0] == format!("store {sector}") || left[0] == "image network";
+            assert!(left.len() == 2 && stored, "{text}");
+        }
+    }
+
+    /// 27 takes an image in which all are in use, or as many lines as fill one up.
+    #[test]
+    fn what_hangs_on_a_full_image_is_shrunk_to_what_fills_it() {
+        for seed in [6, 7] {
+            let (text, left) = left_by(&Renames("refuse 27", "refuse 26"), seed);
+            let (last, before) = left.split_last().unwrap();
+            let fills = |line: &String| line.starts_with("store ") || line == "image network";
+            assert!(last.starts_with("store ") && before.iter().all(fills), "{text}");
+            assert!(left.len() <= 41, "{text}");
+        }
     }
 
     /// Plays a byte less of a script than it should.

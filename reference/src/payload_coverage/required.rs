@@ -1,15 +1,17 @@
 //! What the scripts for `payloads` have to reach, all of them together.
 
-use super::required_nests;
+use super::asked::{FETCH, WRITE_ANSWER};
+use super::stores::STORE;
 use super::texts::{case, holding, relation, room_row, row};
 use super::texts::{PLACES, READ_FAULTS, WRITE_FAULTS};
 use super::unwraps::UNWRAP;
 use super::wraps::WRAP;
+use super::{required_nests, required_shared};
 use crate::forms::{is_good, Form, DIAGNOSTICS, FORMS};
 use crate::frame::MAX_PAYLOAD;
 use crate::payload_scripts::{Oddity, OF_HEX, OF_LEVELS, OF_LINES, OF_NUMBERS};
 use crate::payload_scripts::{CUT, ENDS_AT_LIMIT, FEED_AT_LIMIT, OPEN_END};
-use crate::payload_scripts::{DEPTH, HEADER_FIELDS, INSIDE_FIELDS, LEVEL_FIELDS};
+use crate::payload_scripts::{DEPTH, HEADER_FIELDS, IMAGE_LINE, INSIDE_FIELDS, LEVEL_FIELDS};
 use crate::rows::Row;
 
 fn texts(names: &[&str]) -> Vec<String> {
@@ -22,13 +24,21 @@ pub fn answers() -> Vec<String> {
         "diagnostics",
         "plain",
         "wrote",
+        "image",
+        "stored",
+        "network",
+        "factory",
+        "none",
         "refuse 1",
         "refuse 2",
         "refuse 3",
         "refuse 4",
         "refuse 10",
         "refuse 11",
+        "refuse 22",
         "refuse 24",
+        "refuse 26",
+        "refuse 27",
         "refuse 30",
         "refuse 31",
         "refuse 32",
@@ -48,8 +58,8 @@ pub fn cases() -> Vec<String> {
     }
     for form in FORMS {
         let fields = [&["ROOM"], form.fields].concat();
-        cases.extend(oddities(form.reader, &[], form.taken, "refuse 32"));
-        cases.extend(oddities(form.writer, &fields, "wrote", "refuse 32"));
+        cases.extend(oddities(form.reader, &[], form.taken, Some("refuse 32")));
+        cases.extend(oddities(form.writer, &fields, "wrote", Some("refuse 32")));
         cases.extend(faults(form));
         cases.push(format!("{}, a payload of 1,024 bytes: refuse 32", form.reader));
         cases.push(format!("{}, a text of 1,024 bytes: refuse 32", form.writer));
@@ -61,29 +71,39 @@ pub fn cases() -> Vec<String> {
     cases.push("read-diagnostics, written by write-display: refuse 32".to_string());
     cases.push("read-display, written by write-diagnostics: refuse 32".to_string());
     cases.push("read-display, written by write-diagnostics: refuse 33".to_string());
-    cases.extend(oddities(UNWRAP, &["SUBNET"], "plain", "refuse 3"));
+    cases.extend(oddities(UNWRAP, &["SUBNET"], "plain", Some("refuse 3")));
     let fields = [&["ROOM"], &HEADER_FIELDS[..], &[DEPTH], &LEVEL_FIELDS, &INSIDE_FIELDS];
-    cases.extend(oddities(WRAP, &fields.concat(), "wrote", "refuse 10"));
+    cases.extend(oddities(WRAP, &fields.concat(), "wrote", Some("refuse 10")));
     cases.extend(OF_LEVELS.iter().map(|odd| odd_case(*odd, WRAP, "", "")));
     cases.extend(required_nests::cases());
+    cases.extend(oddities(IMAGE_LINE, &[], "image", Some("image")));
+    let of_images = [Oddity::MissingWords, Oddity::OtherImage];
+    cases.extend(of_images.map(|odd| odd_case(odd, IMAGE_LINE, "", "")));
+    cases.extend(oddities(STORE, &["SECTOR"], "stored", Some("refuse 26")));
+    cases.extend(oddities(FETCH, &["SECTOR"], "network", None));
+    cases.extend(oddities(WRITE_ANSWER, &["ROOM", "SECTOR"], "wrote", None));
+    cases.extend(required_shared::cases());
     cases
 }
 
-/// Every way to spell a line otherwise, in this line, with the answer to those
-/// that are good and to those with the most bytes.
-fn oddities(line: &str, fields: &[&str], taken: &str, most: &str) -> Vec<String> {
-    let mut cases = Vec::new();
+/// Every way to spell a line otherwise, in this line, with the answer to those that
+/// are good and, where it has HEX, to those with the most bytes.
+fn oddities(line: &str, fields: &[&str], taken: &str, most: Option<&str>) -> Vec<String> {
     let mut all = OF_LINES.to_vec();
-    all.extend(OF_HEX);
     all.push(Oddity::OtherName);
+    if most.is_some() {
+        all.extend(OF_HEX);
+    }
     if !fields.is_empty() {
         all.push(Oddity::MissingWords);
-        for field in fields {
-            let place = format!("{line}, {field}");
-            cases.extend(OF_NUMBERS.iter().map(|odd| odd_case(*odd, &place, taken, most)));
-        }
     }
-    cases.extend(all.into_iter().map(|odd| odd_case(odd, line, taken, most)));
+    let most = most.unwrap_or_default();
+    let mut cases: Vec<String> =
+        all.into_iter().map(|odd| odd_case(odd, line, taken, most)).collect();
+    for field in fields {
+        let place = format!("{line}, {field}");
+        cases.extend(OF_NUMBERS.iter().map(|odd| odd_case(*odd, &place, taken, most)));
+    }
     cases
 }
 
@@ -139,6 +159,7 @@ pub fn rows() -> Vec<Row> {
         rows.extend(bytes(form, form.writer, "wrote"));
     }
     rows.extend(required_nests::rows());
+    rows.extend(required_shared::rows());
     rows
 }
 

@@ -3,12 +3,12 @@
 //! have every value somewhere, but not at each level.
 
 use super::nests::back_case;
+use super::rooms::{EXACT, MOST_ROOM, NO_ROOM, ONE_LESS, ONE_MORE};
 use super::texts::{case, holding, row};
 use super::unwraps::{inside_row, unwrap_case, FIFTH, FRAME_FAULTS, RELATIONS, UNWRAP};
 use super::unwraps::{FRAME_LENGTH, FRAME_SIZE, FRAME_SUBNET, LENGTH, SIZE};
 use super::walk::{bad_name, deep_name, plain_name, Cause, Fifth, CAUSES};
 use super::wraps::{depth_row, room_case, wrap_case, OUTERMOST, WRAP, WRAP_FAULTS};
-use super::wraps::{EXACT, MOST_ROOM, NO_ROOM, ONE_LESS, ONE_MORE};
 use crate::encapsulation::{ENCAPSULATION, LEVEL, MOST_LEVELS};
 use crate::frame::{MAX_PAYLOAD, OVERHEAD};
 use crate::payload_scripts::{HEADER_FIELDS, INSIDE_FIELDS, LEVEL_FIELDS};

@@ -59,7 +59,6 @@ impl Texts {
     pub fn note(&mut self, counted: &mut Counted, command: Option<&Command>, head: &str) {
         let written = self.written.take();
         match command {
-            None | Some(Command::Unwrap { .. } | Command::Wrap { .. }) => (),
             Some(Command::ReadDisplay { payload }) => {
                 note_read(counted, &DISPLAY, payload, head);
                 note_read_back(counted, written, &DISPLAY, payload, head);
@@ -78,6 +77,7 @@ impl Texts {
                 let write = Write { form: &DIAGNOSTICS, room: *room, fixed, text };
                 self.note_write(counted, &write, head);
             }
+            _ => (),
         }
     }
 

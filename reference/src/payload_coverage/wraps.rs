@@ -1,6 +1,7 @@
 //! The lines of C-21 that wrap: each depth, length, room and fault under the name by
 //! which it is counted.
 
+use super::rooms::standing;
 use super::texts::{case, holding, row};
 use super::unwraps::SIZE;
 use super::Counted;
@@ -12,12 +13,6 @@ use crate::payloads::Inside;
 pub const WRAP: &str = "wrap";
 /// What can be wrong with what is to be wrapped, at any depth: 31, 10, 11.
 pub const WRAP_FAULTS: [&str; 3] = ["a level inside", "payload above 240", "no room"];
-/// How a room can stand to what is due.
-pub const NO_ROOM: &str = "no room at all";
-pub const ONE_LESS: &str = "one byte less than is due";
-pub const EXACT: &str = "room to the byte";
-pub const ONE_MORE: &str = "one byte more than is due";
-pub const MOST_ROOM: &str = "the most room";
 /// What the numbers of a row are.
 pub const OUTERMOST: &str = "outermost payload of so many bytes";
 
@@ -49,20 +44,14 @@ pub fn depth_row(head: &str, depth: usize, what: &str) -> String {
 /// How the room stands to what is due.
 fn note_room(counted: &mut Counted, depth: usize, room: usize, due: usize, head: &str) {
     counted.rows.count(row(WRAP, head, "ROOM"), room);
-    let relation = match room {
-        _ if room + 1 == due => ONE_LESS,
-        _ if room == due => EXACT,
-        _ if room == due + 1 => ONE_MORE,
-        0 => NO_ROOM,
-        1024 => MOST_ROOM,
-        _ => return,
-    };
-    counted.cases.count(room_case(depth, relation, head));
-    counted.rows.count(row(WRAP, head, relation), due);
+    if let Some(standing) = standing(room, due) {
+        counted.cases.count(room_case(depth, standing, head));
+        counted.rows.count(row(WRAP, head, standing), due);
+    }
 }
 
-pub fn room_case(depth: usize, relation: &str, head: &str) -> String {
-    format!("{WRAP}, depth {depth}, {relation}: {head}")
+pub fn room_case(depth: usize, standing: &str, head: &str) -> String {
+    format!("{WRAP}, depth {depth}, {standing}: {head}")
 }
 
 pub fn wrap_case(depth: usize, faults: &[&str], head: &str) -> String {

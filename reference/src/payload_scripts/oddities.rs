@@ -2,7 +2,7 @@
 //! spelled so.
 
 use super::words::{spelled, Line, Word, DEPTH};
-use crate::language::{byte, hex, HEX_LIMIT};
+use crate::language::{byte, hex};
 use crate::prng::Prng;
 
 /// What is odd about a line. All but the last four make it a bad one.
@@ -22,6 +22,7 @@ pub enum Oddity {
     TooManyBytes,
     NoCharacter,
     OtherName,
+    OtherImage,
     LevelMissing,
     LevelTooMany,
     NumberMissing,
@@ -45,7 +46,7 @@ pub const OF_NUMBERS: [Oddity; 3] = [AboveField, NoNumber, LeadingZeros];
 /// Those of a line that has levels.
 pub const OF_LEVELS: [Oddity; 4] = [LevelMissing, LevelTooMany, NumberMissing, NumberTooMany];
 
-const ALL: [Oddity; 22] = [
+const ALL: [Oddity; 23] = [
     AboveField,
     NoNumber,
     MissingWords,
@@ -60,6 +61,7 @@ const ALL: [Oddity; 22] = [
     TooManyBytes,
     NoCharacter,
     OtherName,
+    OtherImage,
     LevelMissing,
     LevelTooMany,
     NumberMissing,
@@ -83,7 +85,7 @@ const BLANKS: [&str; 6] = ["\t", "\0", "\x0B", "\x0C", "\u{A0}", "\r"];
 const NO_CHARACTERS: [&[u8]; 6] =
     [b"\x80", b"\xFF", b"\xC3", b"\xC3\xA9", b"\xEF\xBB\xBF", b"\xA0"];
 /// Names that are none here, among them those of the answers and of `replay`.
-const OTHER_NAMES: [&str; 12] = [
+const OTHER_NAMES: [&str; 16] = [
     "display",
     "diagnostics",
     "plain",
@@ -96,7 +98,14 @@ const OTHER_NAMES: [&str; 12] = [
     "turn",
     "setup",
     "readdisplay",
+    "stored",
+    "network",
+    "factory",
+    "answer",
 ];
+/// What could be taken for the name of one of the images.
+const OTHER_IMAGES: [&str; 9] =
+    ["Network", "FACTORY", "net", "networks", "factor", "both", "0", "1", "network-factory"];
 
 impl Oddity {
     pub fn name(self) -> &'static str {
@@ -112,14 +121,15 @@ impl Oddity {
             CarriageReturn => "a carriage return",
             OddDigits => "an odd number of digits",
             NoDigit => "a digit that is none",
-            TooManyBytes => "over 1,024 bytes of HEX",
+            TooManyBytes => "too many bytes of HEX",
             NoCharacter => "a byte above 0x7F",
             OtherName => "a name that is none",
+            OtherImage => "an image that is none",
             LevelMissing => "a level is missing",
             LevelTooMany => "a level too many",
             NumberMissing => "a number is missing",
             NumberTooMany => "a number too many",
-            MostBytes => "1,024 bytes of HEX",
+            MostBytes => "the most bytes of HEX",
             LeadingZeros => "leading zeros",
             LowerCase => "HEX in lower case",
             MixedCase => "HEX in both cases",
@@ -139,7 +149,32 @@ impl Oddity {
 
 /// The line with something odd about it; the plain line if that cannot be.
 pub fn odd_line(rng: &mut Prng, words: &[Word]) -> Line {
-    let oddity = rng.pick(&ALL);
+    let (oddity, other) = (rng.pick(&ALL), rng.pick(&ALL));
+    let oddity = match oddity {
+        // a line with levels has many numbers
+        _ if depth_of(words).is_some() && rng.chance(30) => rng.pick(&OF_NUMBERS),
+        // very long lines are the fewer, so that scripts stay short
+        TooManyBytes | MostBytes => rng.pick(&[oddity, other]),
+        _ => oddity,
+    };
+    line_with(rng, oddity, words)
+}
+
+/// The line with something about it that makes it a bad one, but not with too many
+/// bytes: those of an image are very many. Any line can be bad by a space too many,
+/// so that one is found.
+pub fn bad_line(rng: &mut Prng, words: &[Word]) -> Line {
+    loop {
+        let oddity = rng.pick(&ALL);
+        let line = line_with(rng, oddity, words);
+        if oddity.is_bad() && oddity != TooManyBytes && line.oddity.is_some() {
+            return line;
+        }
+    }
+}
+
+/// The line with this about it; the plain line if that cannot be.
+pub fn line_with(rng: &mut Prng, oddity: Oddity, words: &[Word]) -> Line {
     let name = match words.first() {
         Some(Word::Name(name)) => name,
         _ => "",
@@ -150,6 +185,7 @@ pub fn odd_line(rng: &mut Prng, words: &[Word]) -> Line {
         _ if OF_LEVELS.contains(&oddity) => odd_levels(rng, oddity, words),
         MissingWords => cut_words(rng, words),
         OtherName => Some(other_name(rng, name, words)),
+        OtherImage => other_image(rng, words),
         _ => odd_text(rng, oddity, words),
     };
     match odd {
@@ -160,6 +196,10 @@ pub fn odd_line(rng: &mut Prng, words: &[Word]) -> Line {
 
 fn is_number(word: &Word) -> bool {
     matches!(word, Word::Number { .. })
+}
+
+fn is_hex(word: &Word) -> bool {
+    matches!(word, Word::Hex { .. })
 }
 
 /// One of the numbers is spelled otherwise, or another number.
@@ -198,13 +238,13 @@ fn above(rng: &mut Prng, value: u64, most: u64) -> String {
 
 /// The HEX is spelled otherwise, or another HEX.
 fn odd_hex(rng: &mut Prng, oddity: Oddity, words: &[Word]) -> Option<Vec<u8>> {
-    let (bytes, before) = match words.split_last() {
-        Some((Word::Hex(bytes), before)) => (bytes, before),
+    let (bytes, most, before) = match words.split_last() {
+        Some((Word::Hex { bytes, most }, before)) => (bytes, *most, before),
         _ => return None,
     };
     let digits = match oddity {
-        TooManyBytes => digits_of(rng, &[1, 1, 1, 1, 2, 16, 1024, 3000]),
-        MostBytes => digits_of(rng, &[0]),
+        TooManyBytes => digits_of(rng, most, &[1, 1, 1, 1, 2, 16, 1024, 3000]),
+        MostBytes => digits_of(rng, most, &[0]),
         _ if bytes.is_empty() => return None,
         OddDigits => odd_digits(rng, bytes),
         NoDigit => no_digit(rng, bytes),
@@ -216,8 +256,8 @@ fn odd_hex(rng: &mut Prng, oddity: Oddity, words: &[Word]) -> Option<Vec<u8>> {
 }
 
 /// The digits of any bytes, so many more than are allowed.
-fn digits_of(rng: &mut Prng, beyond: &[usize]) -> String {
-    let count = HEX_LIMIT + rng.pick(beyond);
+fn digits_of(rng: &mut Prng, most: usize, beyond: &[usize]) -> String {
+    let count = most + rng.pick(beyond);
     hex(&vec![rng.byte(); count])
 }
 
@@ -249,11 +289,11 @@ fn both_cases(rng: &mut Prng, bytes: &[u8]) -> String {
     hex(bytes).chars().map(&mut either).collect()
 }
 
-/// The name and not all of its numbers; the HEX may be left out anyway.
+/// The name and not all that it needs; the HEX may be left out anyway.
 fn cut_words(rng: &mut Prng, words: &[Word]) -> Option<Vec<u8>> {
-    let numbers = words.iter().filter(|word| is_number(word)).count();
-    let keep = 1 + rng.below(numbers);
-    (numbers > 0).then(|| spelled(&words[..keep]).join(" ").into_bytes())
+    let needed = words[1..].iter().filter(|word| !is_hex(word)).count();
+    let keep = 1 + rng.below(needed);
+    (needed > 0).then(|| spelled(&words[..keep]).join(" ").into_bytes())
 }
 
 /// Where among the words DEPTH stands, and what it says, if the line has levels.
@@ -336,10 +376,25 @@ fn other_name(rng: &mut Prng, name: &str, words: &[Word]) -> Vec<u8> {
     [vec![other], spelled(&words[1..])].concat().join(" ").into_bytes()
 }
 
+/// The name of the image is another, or is left out.
+fn other_image(rng: &mut Prng, words: &[Word]) -> Option<Vec<u8>> {
+    let (line, rest) = match words {
+        [line, Word::Name(_), rest @ ..] => (line, rest),
+        _ => return None,
+    };
+    let mut texts = spelled(std::slice::from_ref(line));
+    if rng.chance(80) {
+        texts.push(rng.pick(&OTHER_IMAGES).to_string());
+    }
+    texts.extend(spelled(rest));
+    Some(texts.join(" ").into_bytes())
+}
+
 /// Something is put into the line, or in the place of one of its spaces.
 fn odd_text(rng: &mut Prng, oddity: Oddity, words: &[Word]) -> Option<Vec<u8>> {
     let text = spelled(words).join(" ").into_bytes();
-    let ends_with_hex = matches!(words.last(), Some(Word::Hex(bytes)) if !bytes.is_empty());
+    // nothing may follow, not even HEX
+    let complete = !matches!(words.last(), Some(Word::Hex { bytes, .. }) if bytes.is_empty());
     let (anywhere, end) = (rng.below(text.len() + 1), text.len());
     let put = |at: usize, what: &[u8]| Some([&text[..at], what, &text[at..]].concat());
     match oddity {
@@ -347,7 +402,7 @@ fn odd_text(rng: &mut Prng, oddity: Oddity, words: &[Word]) -> Option<Vec<u8>> {
         TrailingSpace => put(end, b" "),
         CarriageReturn => put(rng.pick(&[end, end, anywhere]), b"\r"),
         NoCharacter => put(anywhere, rng.pick(&NO_CHARACTERS)),
-        MoreWords if ends_with_hex => {
+        MoreWords if complete => {
             put(end, rng.pick(&[" 00", " 0", " 41", " x", " # text", " read-display"]).as_bytes())
         }
         MoreWords => put(end, b" 41 42"),
@@ -366,7 +421,7 @@ mod tests {
     use crate::payloads::play_all;
 
     fn lines() -> Vec<Vec<Word>> {
-        let (hex, none) = (Word::Hex(vec![0x5A, 0x00]), Word::Hex(Vec::new()));
+        let (hex, none) = (Word::hex(vec![0x5A, 0x00]), Word::hex(Vec::new()));
         let mut lines = vec![
             vec![Word::Name("read-display"), hex.clone()],
             vec![Word::Name("read-diagnostics"), none.clone()],
@@ -374,9 +429,15 @@ mod tests {
             vec![Word::Name("write-display"), Word::room(64), Word::byte("TYPE", 5), none.clone()],
             vec![Word::Name("unwrap"), Word::byte("SUBNET", 5), hex.clone()],
             vec![Word::Name("unwrap"), Word::byte("SUBNET", 5), none.clone()],
+            vec![Word::Name("store"), Word::byte("SECTOR", 5), hex.clone()],
+            vec![Word::Name("store"), Word::byte("SECTOR", 5), none.clone()],
+            vec![Word::Name("fetch"), Word::byte("SECTOR", 5)],
+            vec![Word::Name("write-answer"), Word::room(64), Word::byte("SECTOR", 5)],
+            vec![Word::Name("image"), Word::Name("network"), Word::image(vec![0x5A, 0x00])],
+            vec![Word::Name("image"), Word::Name("factory"), Word::image(Vec::new())],
         ];
         // such HEX as could be a number, too
-        for hex in [hex, none, Word::Hex(vec![0x00, 0x12]), Word::Hex(vec![0x12])] {
+        for hex in [hex, none, Word::hex(vec![0x00, 0x12]), Word::hex(vec![0x12])] {
             lines.extend((0..=6).map(|depth| wrap(depth, hex.clone())));
         }
         lines
@@ -406,6 +467,19 @@ mod tests {
                 let answer = play_all(&line.text);
                 let text = String::from_utf8_lossy(&line.text).into_owned();
                 assert_eq!(answer == "bad line 1\n", expected, "{oddity}: {text}: {answer}");
+            }
+        }
+    }
+
+    /// Every line can be made a bad one, without very many bytes.
+    #[test]
+    fn a_bad_line_is_bad_and_not_very_long() {
+        let mut rng = Prng::new(6);
+        for words in lines() {
+            for _ in 0..200 {
+                let line = bad_line(&mut rng, &words);
+                assert_eq!(play_all(&line.text), "bad line 1\n");
+                assert!(line.text.len() < 1000 && line.oddity.is_some());
             }
         }
     }

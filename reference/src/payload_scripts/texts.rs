@@ -12,15 +12,15 @@ impl Generator {
     pub(super) fn text_words(&mut self) -> Vec<Word> {
         let form = self.rng.pick(&FORMS);
         match self.rng.below(100) {
-            0..=7 => self.read_right(form),
-            8..=27 => self.read_other_length(form),
-            28..=36 => self.read_any(form),
-            37..=52 => self.read_marked(form),
-            53..=59 => self.read_faults(form),
-            60..=66 => self.write_right(form),
-            67..=76 => self.write_any_room(form),
-            77..=82 => self.write_too_long(form),
-            83..=94 => self.write_marked(form),
+            0..=5 => self.read_right(form),
+            6..=25 => self.read_other_length(form),
+            26..=34 => self.read_any(form),
+            35..=50 => self.read_marked(form),
+            51..=57 => self.read_faults(form),
+            58..=63 => self.write_right(form),
+            64..=73 => self.write_any_room(form),
+            74..=79 => self.write_too_long(form),
+            80..=94 => self.write_marked(form),
             _ => self.write_faults(form),
         }
     }
@@ -28,7 +28,7 @@ impl Generator {
     /// A payload that was just written goes to its own reader, or to the other.
     pub(super) fn read_back(&mut self, form: &'static Form, payload: Vec<u8>) -> Vec<Word> {
         let reader = if self.rng.chance(75) { form.reader } else { form.other().reader };
-        vec![Word::Name(reader), Word::Hex(payload)]
+        vec![Word::Name(reader), Word::hex(payload)]
     }
 
     fn read(&mut self, form: &'static Form, length: u8, text: &[u8]) -> Vec<Word> {
@@ -36,7 +36,7 @@ impl Generator {
         payload.push(length);
         payload.extend(text);
         payload.truncate(HEX_LIMIT);
-        vec![Word::Name(form.reader), Word::Hex(payload)]
+        vec![Word::Name(form.reader), Word::hex(payload)]
     }
 
     fn write(&mut self, form: &'static Form, room: usize, text: Vec<u8>) -> Vec<Word> {
@@ -44,7 +44,7 @@ impl Generator {
         let numbers = form.fields.iter().zip(fixed).map(|(field, value)| Word::byte(field, value));
         let mut words = vec![Word::Name(form.writer), Word::room(room.min(MOST_ROOM))];
         words.extend(numbers);
-        words.push(Word::Hex(text));
+        words.push(Word::hex(text));
         words
     }
 
@@ -149,7 +149,7 @@ impl Generator {
                 payload
             }
         };
-        vec![Word::Name(form.reader), Word::Hex(payload)]
+        vec![Word::Name(form.reader), Word::hex(payload)]
     }
 
     fn read_marked(&mut self, form: &'static Form) -> Vec<Word> {
@@ -193,8 +193,10 @@ impl Generator {
         self.rng.pick(&[need, need, need + 1, more, MOST_ROOM])
     }
 
+    /// A long text has more rooms that are too small, so that there are more of these.
     fn write_any_room(&mut self, form: &'static Form) -> Vec<Word> {
-        let size = self.rng.between(0, form.most);
+        let (any, other) = (self.rng.between(0, form.most), self.rng.between(0, form.most));
+        let size = self.rng.pick(&[any, any.max(other)]);
         let room = self.rng.between(0, form.size(size) + 1);
         let text = self.good_text(size);
         self.write(form, room, text)

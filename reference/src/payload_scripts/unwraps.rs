@@ -18,9 +18,9 @@ const LENGTH_AT: usize = 9;
 impl Generator {
     pub(super) fn unwrap_words(&mut self) -> Vec<Word> {
         let frame = match self.rng.below(100) {
-            0..=22 => self.right_nest().frame(),
-            23 | 24 => self.right_nest().zeroed(),
-            25..=59 => self.other_length().frame(),
+            0..=20 => self.right_nest().frame(),
+            21 | 22 => self.right_nest().zeroed(),
+            23..=59 => self.other_length().frame(),
             60..=63 => self.too_few().frame(),
             64..=71 => self.too_deep().frame(),
             72..=77 => self.other_type().frame(),
@@ -50,7 +50,7 @@ impl Generator {
 
     fn right_nest(&mut self) -> Nest {
         let depth = self.rng.between(0, MOST_LEVELS);
-        let size = self.size_inside(depth, 70);
+        let size = self.size_inside(depth, 85);
         Nest::new(&mut self.rng, depth, size)
     }
 
@@ -101,7 +101,7 @@ impl Generator {
     fn too_deep(&mut self) -> Nest {
         let deeper = self.rng.chance(40);
         let depth = if deeper { self.rng.between(MOST_LEVELS + 1, DEEPEST) } else { MOST_LEVELS };
-        let (any, few) = (self.size_inside(depth, 70), self.rng.below(LEVEL));
+        let (any, few) = (self.size_inside(depth, 85), self.rng.below(LEVEL));
         let size = self.rng.pick(&[any, any, any, few]);
         let mut nest = Nest::new(&mut self.rng, depth, size);
         if deeper && self.rng.chance(50) {
@@ -201,5 +201,5 @@ impl Generator {
 }
 
 fn unwrap_line(ours: u8, frame: Vec<u8>) -> Vec<Word> {
-    vec![Word::Name("unwrap"), Word::byte("SUBNET", ours), Word::Hex(frame)]
+    vec![Word::Name("unwrap"), Word::byte("SUBNET", ours), Word::hex(frame)]
 }

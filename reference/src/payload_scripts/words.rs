@@ -1,6 +1,6 @@
 //! A line for `payloads` in words, before it is spelled.
 
-use crate::language::{hex, ROOM_LIMIT};
+use crate::language::{hex, HEX_LIMIT, IMAGE_LIMIT, ROOM_LIMIT};
 
 /// The field that says how many levels follow it.
 pub const DEPTH: &str = "DEPTH";
@@ -14,7 +14,11 @@ pub enum Word {
         value: u64,
         most: u64,
     },
-    Hex(Vec<u8>),
+    /// HEX of up to so many bytes.
+    Hex {
+        bytes: Vec<u8>,
+        most: usize,
+    },
 }
 
 impl Word {
@@ -32,12 +36,21 @@ impl Word {
         Word::Number { field: DEPTH, value: value as u64, most: u64::MAX }
     }
 
+    pub fn hex(bytes: Vec<u8>) -> Word {
+        Word::Hex { bytes, most: HEX_LIMIT }
+    }
+
+    /// The bytes of an image.
+    pub fn image(bytes: Vec<u8>) -> Word {
+        Word::Hex { bytes, most: IMAGE_LIMIT }
+    }
+
     fn spelled(&self) -> Option<String> {
         match self {
             Word::Name(name) => Some(name.to_string()),
             Word::Number { value, .. } => Some(value.to_string()),
-            Word::Hex(bytes) if bytes.is_empty() => None,
-            Word::Hex(bytes) => Some(hex(bytes)),
+            Word::Hex { bytes, .. } if bytes.is_empty() => None,
+            Word::Hex { bytes, .. } => Some(hex(bytes)),
         }
     }
 }

@@ -36,8 +36,8 @@ fn due(depth: usize, size: usize) -> usize {
 impl Generator {
     pub(super) fn wrap_words(&mut self) -> Vec<Word> {
         let wrap = match self.rng.below(100) {
-            0..=45 => self.wrap_right(),
-            46..=66 => self.wrap_any_room(),
+            0..=44 => self.wrap_right(),
+            45..=66 => self.wrap_any_room(),
             67..=71 => self.wrap_near_limit(),
             72..=77 => self.wrap_too_long(),
             78..=84 => self.wrap_too_deep(),
@@ -57,7 +57,7 @@ impl Generator {
             if wrap.level_inside { ENCAPSULATION } else { plain_type(&mut self.rng) };
         words.push(Word::byte(INSIDE_FIELDS[0], message_type));
         words.extend(self.any_bytes(&INSIDE_FIELDS[1..]));
-        words.push(Word::Hex(self.rng.bytes(wrap.size.min(HEX_LIMIT))));
+        words.push(Word::hex(self.rng.bytes(wrap.size.min(HEX_LIMIT))));
         words
     }
 
@@ -73,12 +73,12 @@ impl Generator {
     fn room_to_wrap(&mut self, depth: usize, size: usize) -> usize {
         let due = due(depth, size);
         let more = self.rng.between(due, MOST_ROOM.max(due));
-        self.rng.pick(&[due, due, due + 1, more, MOST_ROOM])
+        self.rng.pick(&[due, due, due + 1, due + 1, more, MOST_ROOM])
     }
 
     fn wrap_right(&mut self) -> Wrap {
         let depth = self.rng.between(0, MOST_LEVELS);
-        let size = self.size_inside(depth, 70);
+        let size = self.size_inside(depth, 85);
         Wrap { depth, level_inside: false, size, room: self.room_to_wrap(depth, size) }
     }
 

@@ -1,15 +1,22 @@
 -- `payloads::play` ends: each line takes one byte at least of the input, so that their number fits.
 use Prim.Native.Nat.{_-_, _≤_}
+use mathlib.Core.Path.{_≡_}
 use lib.ListN.{length}
 use borrow.Author.Needs.{needs}
 use Rattle.payloads.proofs.play.Statement.{statement}
 use Rattle.payloads.proofs.play.Tie as tie
 
 abbrev Inv-loop : tie.InvT-loop
-Inv-loop lines number₀ at₀ number at = number ≤ at
+Inv-loop lines network₀ factory₀ sizes₀ number₀ at₀ network factory sizes number at = (length network ≡ 16384) × ((length factory ≡ 16384) × (number ≤ at))
 
 abbrev μ-loop : tie.MeasureT-loop
-μ-loop lines number₀ at₀ number at = length lines - at
+μ-loop lines network₀ factory₀ sizes₀ number₀ at₀ network factory sizes number at = length lines - at
+
+blank-requires : tie.Need-blank-requires Inv-loop μ-loop
+blank-requires c κs = search needs
+
+blank-requires-2 : tie.Need-blank-requires-2 Inv-loop μ-loop
+blank-requires-2 c κs = search needs
 
 loop-holds : tie.Need-loop-holds Inv-loop μ-loop
 loop-holds c = search needs
@@ -31,6 +38,12 @@ add-number c = search needs
 
 slice-aggregate-play-line : tie.Need-slice-aggregate-play-line Inv-loop μ-loop
 slice-aggregate-play-line c = search needs
+
+slice-aggregate-play-line-2 : tie.Need-slice-aggregate-play-line-2 Inv-loop μ-loop
+slice-aggregate-play-line-2 c = search needs
+
+slice-aggregate-play-line-3 : tie.Need-slice-aggregate-play-line-3 Inv-loop μ-loop
+slice-aggregate-play-line-3 c = search needs
 
 play-line-requires : tie.Need-play-line-requires Inv-loop μ-loop
 play-line-requires c κs = search needs
@@ -56,6 +69,8 @@ play-spec =
     (tie.spec
     Inv-loop
     μ-loop
+    blank-requires
+    blank-requires-2
     loop-holds
     sub-rest
     part-rest-start
@@ -63,6 +78,8 @@ play-spec =
     before-requires
     add-number
     slice-aggregate-play-line
+    slice-aggregate-play-line-2
+    slice-aggregate-play-line-3
     play-line-requires
     add-end
     add-at

@@ -85,6 +85,12 @@ enum-told-26 c = search needs
 enum-told-27 : tie.Need-enum-told-27
 enum-told-27 c = search needs
 
+enum-told-28 : tie.Need-enum-told-28
+enum-told-28 c = search needs
+
+enum-told-29 : tie.Need-enum-told-29
+enum-told-29 c = search needs
+
 returns : tie.Need-returns
 returns c = rw (c .enum-told .given .1) refl
 
@@ -166,6 +172,12 @@ returns-26 c = rw (c .enum-told26 .given .1) refl
 returns-27 : tie.Need-returns-27
 returns-27 c = rw (c .enum-told27 .given .1) refl
 
+returns-28 : tie.Need-returns-28
+returns-28 c = rw (c .enum-told28 .given .1) refl
+
+returns-29 : tie.Need-returns-29
+returns-29 c = rw (c .enum-told29 .given .1) refl
+
 pub number-spec : {M : Type 1} → statement M
 number-spec =
     tie.close
@@ -197,6 +209,8 @@ number-spec =
     enum-told-25
     enum-told-26
     enum-told-27
+    enum-told-28
+    enum-told-29
     returns
     returns-2
     returns-3
@@ -223,4 +237,6 @@ number-spec =
     returns-24
     returns-25
     returns-26
-    returns-27)
+    returns-27
+    returns-28
+    returns-29)

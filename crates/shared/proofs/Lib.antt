@@ -1,0 +1,14 @@
+pub mod Slots
+pub mod Looking
+pub mod Laying
+pub mod Answers
+pub mod Faces
+pub mod Told
+pub mod Unique
+pub mod Put
+pub mod Kept
+pub mod Served
+pub mod Exactly
+pub mod Series
+pub mod Blank
+pub mod Named
