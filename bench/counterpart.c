@@ -128,6 +128,10 @@ static size_t lowest_owed(const ct_node *nodes, size_t k) {
     return 0;
 }
 
+static bool is_old(const ct_node *n) {
+    return n->version == NADRELGOS_VERSION_1_0;
+}
+
 /* Every index counted anew, in one pass: boards come, go and change their types too seldom for more. */
 static void count_indexes(ct_node *nodes) {
     uint8_t lower[256] = {0}; /* of each type, at lower positions */
@@ -150,21 +154,30 @@ static bool pool_fits(const uint8_t *addresses, size_t k) {
     return true;
 }
 
+static bool is_version(uint8_t version) {
+    return version == NADRELGOS_VERSION_1_0 || version == NADRELGOS_VERSION_LATER;
+}
+
 static bool record_fits(const ct_node *n, bool may_be_listed) {
-    if (n->kind == 0) return n->mac == 0 && n->session == 0 && n->misses == 0 && n->owed == 0 && n->index == 0;
-    return may_be_listed && n->kind != OUR_KIND && is_mac(n->mac) && n->misses <= 2 && n->owed <= 1;
+    if (n->kind == 0)
+        return n->mac == 0 && n->session == 0 && n->misses == 0 && n->owed == 0 && n->index == 0 && n->version == 0;
+    return may_be_listed && n->kind != OUR_KIND && is_mac(n->mac) && n->misses <= 2 && n->owed <= 1 &&
+           is_version(n->version);
 }
 
 static bool table_fits(const ct_node *nodes, size_t k) {
     uint8_t lower[256] = {0}; /* of each type, at lower positions */
+    size_t types = 0, old = 0;
     for (size_t i = 0; i < NADRELGOS_NODES; i++) {
         if (!record_fits(&nodes[i], i < k)) return false;
         if (nodes[i].kind == 0) continue;
         if (nodes[i].index != lower[nodes[i].kind]++) return false;
         for (size_t j = 0; j < i; j++)
             if (nodes[j].mac == nodes[i].mac) return false;
+        types += nodes[i].index == 0; /* the first of its type */
+        old += is_old(&nodes[i]);
     }
-    return true;
+    return old == 0 || types <= NADRELGOS_OLD_TYPES;
 }
 
 static bool keeps_request(const struct nadrelgos_kept *m) {
@@ -180,7 +193,7 @@ static bool stake_fits(const ct_coordinator *c) {
 }
 
 static bool found_fits(const struct nadrelgos_found *f) {
-    return is_kind(f->kind) && is_mac(f->mac);
+    return is_kind(f->kind) && is_mac(f->mac) && is_version(f->version);
 }
 
 static bool stand_fits(const ct_coordinator *c, const ct_node *nodes) {
@@ -248,14 +261,33 @@ struct ct_answer ct_setup(ct_coordinator *c, ct_node *nodes, size_t nodes_count,
     return does(NADRELGOS_REST, 0);
 }
 
+/* Whether a 1.0 board would be listed with more than 15 types, the joiner in place of its own record. */
+static bool too_many_types(const ct_node *nodes, const ct_node *joiner) {
+    bool seen[256] = {0};
+    size_t types = 1;
+    bool old = is_old(joiner);
+    seen[joiner->kind] = true;
+    for (size_t i = 0; i < NADRELGOS_NODES; i++) {
+        const ct_node *n = &nodes[i];
+        if (n->kind == 0 || n->mac == joiner->mac) continue;
+        types += !seen[n->kind];
+        seen[n->kind] = true;
+        old = old || is_old(n);
+    }
+    return old && types > NADRELGOS_OLD_TYPES;
+}
+
 struct ct_answer ct_join(ct_coordinator *c, ct_node *nodes, size_t nodes_count, uint8_t kind, uint64_t mac,
-                         uint64_t session) {
+                         uint64_t session, uint8_t version) {
     if (!is_fit(c, nodes, nodes_count)) return refuse(NADRELGOS_STATE_UNFIT);
     if (!is_kind(kind)) return refuse(NADRELGOS_BAD_TYPE);
     if (!is_mac(mac)) return refuse(NADRELGOS_BAD_MAC);
     size_t k = c->setup.k;
     if (c->stand.stage != CT_STAGE_RESTING || lowest_owed(nodes, k) != 0) return refuse(NADRELGOS_BUSY);
     if (c->held) return refuse(NADRELGOS_HELD);
+    ct_node joiner = {.kind = kind, .mac = mac, .session = session};
+    joiner.version = version == NADRELGOS_VERSION_1_0 ? NADRELGOS_VERSION_1_0 : NADRELGOS_VERSION_LATER;
+    if (too_many_types(nodes, &joiner)) return refuse(NADRELGOS_TOO_MANY_TYPES);
     size_t known = 0, open = 0;
     for (size_t i = k; i > 0; i--) {
         if (nodes[i - 1].kind == 0)
@@ -265,7 +297,7 @@ struct ct_answer ct_join(ct_coordinator *c, ct_node *nodes, size_t nodes_count, 
     }
     size_t position = known ? known : open;
     if (position == 0) return refuse(NADRELGOS_FULL);
-    nodes[position - 1] = (ct_node){.kind = kind, .mac = mac, .session = session};
+    nodes[position - 1] = joiner;
     count_indexes(nodes);
     owe_all(nodes);
     c->held = 1;
@@ -286,11 +318,15 @@ static uint64_t word_at(const uint8_t *bytes) {
     return word;
 }
 
+static uint8_t subnet_of(const ct_coordinator *c, const ct_node *n) {
+    return is_old(n) ? NADRELGOS_OLD_SUBNET : c->setup.subnet;
+}
+
 static struct ct_header own_header(const ct_coordinator *c, const ct_node *nodes, size_t board, uint8_t message,
                                    uint8_t packet) {
     return (struct ct_header){.destination = address_of(c, board),
                               .source = COORDINATOR,
-                              .subnet = c->setup.subnet,
+                              .subnet = subnet_of(c, &nodes[board - 1]),
                               .parameter2 = nodes[board - 1].index,
                               .kind = OUR_KIND,
                               .message = message,
@@ -308,10 +344,9 @@ static ct_refusal write_signed(const ct_coordinator *c, const ct_node *nodes, si
     return ct_write(&header, payload, SIGNED, out, room);
 }
 
-/* The node list, up to the highest listed position. */
-static size_t node_list(const ct_coordinator *c, const ct_node *nodes, uint8_t list[NADRELGOS_NODES + 1]) {
+/* Up to the highest listed position. */
+static size_t full_list(const ct_node *nodes, uint8_t list[NADRELGOS_NODES + 1]) {
     size_t length = 1;
-    list[0] = c->setup.internal;
     for (size_t i = 0; i < NADRELGOS_NODES; i++) {
         list[i + 1] = nodes[i].kind;
         if (nodes[i].kind != 0) length = i + 2;
@@ -319,11 +354,36 @@ static size_t node_list(const ct_coordinator *c, const ct_node *nodes, uint8_t l
     return length;
 }
 
-static ct_refusal write_kept(const ct_coordinator *c, size_t board, uint8_t parameter2, uint8_t *out, size_t room) {
+/* Each type once, in 16 bytes: the lowest 1.0 board of a type at its position, the other types where it is open. */
+static size_t condensed_list(const ct_node *nodes, uint8_t list[NADRELGOS_NODES + 1]) {
+    bool seen[256] = {[0] = true};
+    memset(list + 1, 0, NADRELGOS_OLD_TYPES);
+    for (size_t i = 0; i < NADRELGOS_OLD_TYPES; i++) {
+        if (!is_old(&nodes[i]) || seen[nodes[i].kind]) continue;
+        seen[nodes[i].kind] = true;
+        list[i + 1] = nodes[i].kind;
+    }
+    size_t open = 1;
+    for (size_t i = 0; i < NADRELGOS_NODES; i++) {
+        if (seen[nodes[i].kind]) continue;
+        while (list[open] != 0) open++;
+        seen[nodes[i].kind] = true;
+        list[open] = nodes[i].kind;
+    }
+    return NADRELGOS_OLD_LIST;
+}
+
+size_t ct_list(const ct_coordinator *c, const ct_node *nodes, size_t board, uint8_t list[NADRELGOS_NODES + 1]) {
+    list[0] = c->setup.internal;
+    return is_old(&nodes[board - 1]) ? condensed_list(nodes, list) : full_list(nodes, list);
+}
+
+static ct_refusal write_kept(const ct_coordinator *c, const ct_node *nodes, size_t board, uint8_t parameter2,
+                             uint8_t *out, size_t room) {
     const struct nadrelgos_kept *m = &c->kept;
     struct ct_header header = {.destination = address_of(c, board),
                                .source = COORDINATOR,
-                               .subnet = c->setup.subnet,
+                               .subnet = subnet_of(c, &nodes[board - 1]),
                                .method = m->method,
                                .parameter1 = m->parameter,
                                .parameter2 = parameter2,
@@ -344,10 +404,10 @@ static size_t next_listed(const ct_coordinator *c, const ct_node *nodes) {
     return 0;
 }
 
-static struct ct_answer turn_carried(ct_coordinator *c, uint8_t parameter2, enum ct_stage stage,
+static struct ct_answer turn_carried(ct_coordinator *c, const ct_node *nodes, uint8_t parameter2, enum ct_stage stage,
                                      enum nadrelgos_exchange_number exchange, uint8_t *out, size_t room) {
     size_t board = c->stand.board;
-    ct_refusal refusal = write_kept(c, board, parameter2, out, room);
+    ct_refusal refusal = write_kept(c, nodes, board, parameter2, out, room);
     if (refusal) return refuse(refusal);
     stand(c, stage, board, exchange == NADRELGOS_FORWARD ? c->stand.requester : 0);
     return wait_for(board, exchange, CT_OVERHEAD + c->kept.length);
@@ -355,7 +415,7 @@ static struct ct_answer turn_carried(ct_coordinator *c, uint8_t parameter2, enum
 
 static struct ct_answer turn_list(ct_coordinator *c, ct_node *nodes, size_t board, uint8_t *out, size_t room) {
     uint8_t list[NADRELGOS_NODES + 1];
-    size_t length = node_list(c, nodes, list);
+    size_t length = ct_list(c, nodes, board, list);
     struct ct_header header = own_header(c, nodes, board, TYPE_LIST, 0);
     ct_refusal refusal = ct_write(&header, list, length, out, room);
     if (refusal) return refuse(refusal);
@@ -384,10 +444,10 @@ struct ct_answer ct_turn(ct_coordinator *c, ct_node *nodes, size_t nodes_count, 
     if (is_waiting(c)) return refuse(NADRELGOS_AWAITING_REPLY);
     if (!anyone_listed(nodes)) return refuse(NADRELGOS_NOBODY_LISTED);
     if (c->stand.stage == CT_STAGE_RETURN_DUE)
-        return turn_carried(c, 0, CT_STAGE_WAIT_RETURN, NADRELGOS_RETURN, out, room);
+        return turn_carried(c, nodes, 0, CT_STAGE_WAIT_RETURN, NADRELGOS_RETURN, out, room);
     if (c->stand.stage == CT_STAGE_FORWARD_DUE)
-        return turn_carried(c, nodes[c->stand.requester - 1].index, CT_STAGE_WAIT_FORWARD, NADRELGOS_FORWARD, out,
-                            room);
+        return turn_carried(c, nodes, nodes[c->stand.requester - 1].index, CT_STAGE_WAIT_FORWARD, NADRELGOS_FORWARD,
+                            out, room);
     size_t owed = lowest_owed(nodes, c->setup.k);
     if (owed) return turn_list(c, nodes, owed, out, room);
     return turn_offer(c, nodes, out, room);
@@ -483,7 +543,7 @@ static struct ct_answer hear_after_list(ct_coordinator *c, ct_node *nodes, const
                                         size_t room) {
     if (f->header.message != TYPE_ECHO) return refuse(NADRELGOS_UNEXPECTED_TYPE);
     uint8_t list[NADRELGOS_NODES + 1];
-    size_t length = node_list(c, nodes, list);
+    size_t length = ct_list(c, nodes, c->stand.board, list);
     if (f->length != length || memcmp(f->payload, list, length) != 0) return refuse(NADRELGOS_BAD_ECHO);
     ct_refusal refusal = acknowledge(c, nodes, c->stand.board, out, room);
     if (refusal) return refuse(refusal);
@@ -525,11 +585,17 @@ static bool is_stray(const ct_coordinator *c, uint8_t message) {
     return !(forward && message == c->kept.message + RESPONSE);
 }
 
+/* The subnet in which bytes are read: a 1.0 board's, where they have it and such a board is awaited. */
+static uint8_t read_in(const ct_coordinator *c, const ct_node *nodes, const uint8_t *bytes, size_t count) {
+    bool has_old = count >= CT_OVERHEAD && bytes[2] == NADRELGOS_OLD_SUBNET;
+    return has_old && is_waiting(c) ? subnet_of(c, &nodes[c->stand.board - 1]) : c->setup.subnet;
+}
+
 struct ct_answer ct_hear(ct_coordinator *c, ct_node *nodes, size_t nodes_count, const uint8_t *bytes, size_t count,
                          uint8_t *out, size_t room) {
     if (!is_fit(c, nodes, nodes_count)) return refuse(NADRELGOS_STATE_UNFIT);
     struct ct_frame f;
-    ct_refusal refusal = ct_read(c->setup.subnet, bytes, count, &f);
+    ct_refusal refusal = ct_read(read_in(c, nodes, bytes, count), bytes, count, &f);
     if (refusal) return refuse(refusal);
     if (f.header.destination != COORDINATOR) return refuse(NADRELGOS_NOT_FOR_US);
     if (is_stray(c, f.header.message)) return refuse(NADRELGOS_NOT_DISCOVERING);

@@ -64,11 +64,14 @@ ct_finding ct_find(uint8_t ours, const uint8_t *bytes, size_t count, size_t budg
 struct ct_answer ct_setup(ct_coordinator *c, ct_node *nodes, size_t nodes_count, const uint8_t *addresses, size_t k,
                           uint8_t subnet, uint8_t internal, uint64_t mac, uint64_t session);
 struct ct_answer ct_join(ct_coordinator *c, ct_node *nodes, size_t nodes_count, uint8_t kind, uint64_t mac,
-                         uint64_t session);
+                         uint64_t session, uint8_t version);
 struct ct_answer ct_turn(ct_coordinator *c, ct_node *nodes, size_t nodes_count, uint8_t *out, size_t room);
 struct ct_answer ct_hear(ct_coordinator *c, ct_node *nodes, size_t nodes_count, const uint8_t *bytes, size_t count,
                          uint8_t *out, size_t room);
 struct ct_answer ct_quiet(ct_coordinator *c, ct_node *nodes, size_t nodes_count);
+
+/* The payload of the node list to a board, in the form of its version; its length. */
+size_t ct_list(const ct_coordinator *c, const ct_node *nodes, size_t board, uint8_t list[NADRELGOS_NODES + 1]);
 
 ct_holder ct_shared_holder(const uint8_t *network, size_t network_count, const uint8_t *factory, size_t factory_count,
                            uint8_t sector);

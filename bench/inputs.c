@@ -28,7 +28,7 @@ size_t make_ack(const ct_coordinator *c, const ct_node *nodes, size_t position, 
     }
     struct ct_header header = {.destination = 255,
                                .source = c->setup.pool[position - 1],
-                               .subnet = c->setup.subnet,
+                               .subnet = n->version == NADRELGOS_VERSION_1_0 ? NADRELGOS_OLD_SUBNET : c->setup.subnet,
                                .kind = n->kind,
                                .packet = 0x80};
     return framed(&header, payload, sizeof payload, out);
@@ -74,6 +74,12 @@ void make_panel(struct panel *p, size_t boards, size_t last) {
         p->nodes[i] = (ct_node){.kind = (uint8_t)(2 + i % KINDS),
                                 .mac = 0x00A0B0C0D0E000 + i,
                                 .session = 0x0102030405060708 + i,
-                                .index = (uint8_t)(i / KINDS)};
+                                .index = (uint8_t)(i / KINDS),
+                                .version = NADRELGOS_VERSION_LATER};
     p->coordinator.last = last;
+}
+
+void owe_list(struct panel *p, size_t position, uint8_t version) {
+    p->nodes[position - 1].owed = 1;
+    p->nodes[position - 1].version = version;
 }

@@ -34,7 +34,11 @@ struct panel {
     struct nadrelgos_node nodes[NADRELGOS_NODES];
 };
 
-/* A panel with k = 40 and so many boards, resting, to none of which a list is owed, that offered the bus to `last`. */
+/* A panel with k = 40 and so many boards, all of 2.0, resting, to none of which a list is owed, that offered the bus to
+   `last`. */
 void make_panel(struct panel *p, size_t boards, size_t last);
+
+/* The list is owed to the board at a position, which is of this version. */
+void owe_list(struct panel *p, size_t position, uint8_t version);
 
 #endif

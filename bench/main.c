@@ -1,6 +1,6 @@
 /* main: checks that the proved code and the counterpart give the same, then times them side by side and prints a table.
  * main before, where it is compiled with BEFORE: times the wire's proved functions against those of an earlier commit.
- * main loop HOW EVENT BOARDS TIMES: runs one step so many times, for a count of instructions.
+ * main loop HOW KIND BOARDS TIMES: runs one step so many times, for a count of instructions.
  * main list SIDE CAPTURE TIMES: finds all in a capture so many times, for the same. */
 #define _POSIX_C_SOURCE 199309L
 #include "inside.h"
@@ -67,12 +67,14 @@ static size_t list_counterpart(struct work *w, size_t times) {
     return frames;
 }
 
+static const struct ct_joiner nobody; /* no join is timed */
+
 /* One step on each panel. They are set anew before, outside the time that is taken. */
 static size_t steps_counterpart(struct work *w, size_t times) {
     size_t sum = 0;
     for (size_t i = 0; i < times; i++)
         sum += nadrelgos_answer(
-            step_counterpart(&w->panels[i], w->event, 0, 0, 0, w->acks[i], w->ack_count, w->out, sizeof w->out));
+            step_counterpart(&w->panels[i], w->event, &nobody, w->acks[i], w->ack_count, w->out, sizeof w->out));
     return sum;
 }
 
@@ -80,21 +82,37 @@ static size_t steps_lent(struct work *w, size_t times) {
     size_t sum = 0;
     for (size_t i = 0; i < times; i++)
         sum += nadrelgos_answer(nadrelgos_step(&w->panels[i].coordinator, w->panels[i].nodes, NADRELGOS_NODES, w->event,
-                                               0, 0, 0, w->acks[i], w->ack_count, w->out, sizeof w->out));
+                                               0, 0, 0, 0, w->acks[i], w->ack_count, w->out, sizeof w->out));
     return sum;
 }
 
-/* Panels that are about to offer the bus; for an event in a wait, those that have offered it. */
-static void set_panels(struct work *w, size_t boards, uint8_t event) {
+/* The steps that are timed: a name, a word, the event, and the version of the board to which the list is owed, 0 where
+   it is owed to none. */
+struct kind_of_step {
+    const char *name, *word;
+    uint8_t event, owed;
+};
+static const struct kind_of_step kinds[] = {
+    {"turn: an offer", "turn", NADRELGOS_EVENT_TURN, 0},
+    {"turn: a list, 2.0", "list", NADRELGOS_EVENT_TURN, NADRELGOS_VERSION_LATER},
+    {"turn: a list, 1.0", "condensed", NADRELGOS_EVENT_TURN, NADRELGOS_VERSION_1_0},
+    {"frame: its ACK", "frame", NADRELGOS_EVENT_FRAME, 0},
+    {"quiet: a miss", "quiet", NADRELGOS_EVENT_QUIET, 0},
+};
+enum { KINDS = sizeof kinds / sizeof *kinds };
+
+/* Panels that are about to offer the bus or to send a list; for an event in a wait, those that have offered it. */
+static void set_panels(struct work *w, size_t boards, const struct kind_of_step *kind) {
     for (size_t i = 0; i < PANELS; i++) {
         struct panel *p = &w->panels[i];
         make_panel(p, boards, i * 5 % boards);
-        if (event != NADRELGOS_EVENT_TURN) {
+        if (kind->owed) owe_list(p, 1 + i * 5 % boards, kind->owed);
+        if (kind->event != NADRELGOS_EVENT_TURN) {
             ct_turn(&p->coordinator, p->nodes, NADRELGOS_NODES, w->out, sizeof w->out);
             w->ack_count = make_ack(&p->coordinator, p->nodes, p->coordinator.stand.board, w->acks[i]);
         }
     }
-    w->event = event;
+    w->event = kind->event;
 }
 
 /* ---- time ---- */
@@ -217,19 +235,17 @@ enum { LENT, COUNTERPART, STEPPERS };
 static job *const steppers[STEPPERS] = {steps_lent, steps_counterpart};
 
 static const size_t board_counts[] = {1, 8, 40};
-static const uint8_t events[] = {NADRELGOS_EVENT_TURN, NADRELGOS_EVENT_FRAME, NADRELGOS_EVENT_QUIET};
-static const char *const event_names[] = {"turn: an offer", "frame: its ACK", "quiet: a miss"};
-static double step_times[3][3][STEPPERS]; /* event, boards, stepper */
+static double step_times[KINDS][3][STEPPERS]; /* kind, boards, stepper */
 
 static void step_table(struct work *w) {
     printf("\n%-34s %12s %12s %8s\n", "ns a step", "lent", "C -O2", "ratio");
-    for (size_t e = 0; e < 3; e++)
+    for (size_t k = 0; k < KINDS; k++)
         for (size_t b = 0; b < 3; b++) {
-            double *best = step_times[e][b];
+            double *best = step_times[k][b];
             char name[64];
-            set_panels(w, board_counts[b], events[e]);
+            set_panels(w, board_counts[b], &kinds[k]);
             race(w, steppers, STEPPERS, PANELS, 4000, best);
-            snprintf(name, sizeof name, "%s, %zu board%s", event_names[e], board_counts[b], b ? "s" : "");
+            snprintf(name, sizeof name, "%s, %zu board%s", kinds[k].name, board_counts[b], b ? "s" : "");
             printf("%-34s %12.1f %12.1f %8.2f\n", name, best[LENT], best[COUNTERPART], best[LENT] / best[COUNTERPART]);
         }
 }
@@ -263,12 +279,12 @@ static void growth_table(struct work *w) {
     }
     printf("\n%-34s %10s %10s %18s\n", "growth: ns over boards", "1", "8", "40");
     static const char *const stepper_names[STEPPERS] = {"lent", "C"};
-    for (size_t e = 0; e < 3; e++)
+    for (size_t k = 0; k < KINDS; k++)
         for (size_t j = 0; j < STEPPERS; j++) {
             char name[64];
             double times[3];
-            for (size_t b = 0; b < 3; b++) times[b] = step_times[e][b][j];
-            snprintf(name, sizeof name, "%s, %s", event_names[e], stepper_names[j]);
+            for (size_t b = 0; b < 3; b++) times[b] = step_times[k][b][j];
+            snprintf(name, sizeof name, "%s, %s", kinds[k].name, stepper_names[j]);
             growth_row(name, times, 3);
         }
 }
@@ -277,16 +293,15 @@ static void growth_table(struct work *w) {
 
 int main(int argc, char **argv);
 
-static bool loop(const char *what, const char *event, size_t boards, size_t times) {
+static bool loop(const char *what, const char *kind, size_t boards, size_t times) {
     static struct work w;
     static const char *const names[STEPPERS] = {"lent", "counterpart"};
-    static const char *const event_words[] = {"turn", "frame", "quiet"};
-    for (size_t e = 0; e < 3; e++)
+    for (size_t k = 0; k < KINDS; k++)
         for (size_t j = 0; j < STEPPERS; j++)
-            if (strcmp(what, names[j]) == 0 && strcmp(event, event_words[e]) == 0 && boards >= 1 &&
+            if (strcmp(what, names[j]) == 0 && strcmp(kind, kinds[k].word) == 0 && boards >= 1 &&
                 boards <= NADRELGOS_NODES) {
                 while (times-- > 0) {
-                    set_panels(&w, boards, events[e]);
+                    set_panels(&w, boards, &kinds[k]);
                     sink += steppers[j](&w, 1);
                 }
                 return true;
@@ -318,7 +333,7 @@ static int done(bool known) {
         printf("%zx\n", (size_t)(uintptr_t)main);
         return 0;
     }
-    fprintf(stderr, "usage: main [loop lent|counterpart turn|frame|quiet BOARDS TIMES]\n"
+    fprintf(stderr, "usage: main [loop lent|counterpart turn|list|condensed|frame|quiet BOARDS TIMES]\n"
                     "       main [list proved|counterpart typical|quiet|worst TIMES]\n");
     return 2;
 }

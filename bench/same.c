@@ -12,8 +12,8 @@ static uint64_t packed(struct ct_answer answer) {
     return number;
 }
 
-uint64_t step_counterpart(struct panel *p, uint8_t event, uint8_t kind, uint64_t mac, uint64_t session,
-                          const uint8_t *received, size_t count, uint8_t *out, size_t room) {
+uint64_t step_counterpart(struct panel *p, uint8_t event, const struct ct_joiner *joiner, const uint8_t *received,
+                          size_t count, uint8_t *out, size_t room) {
     ct_coordinator *c = &p->coordinator;
     ct_node *nodes = p->nodes;
     struct ct_answer answer;
@@ -21,7 +21,9 @@ uint64_t step_counterpart(struct panel *p, uint8_t event, uint8_t kind, uint64_t
     case NADRELGOS_EVENT_TURN: answer = ct_turn(c, nodes, NADRELGOS_NODES, out, room); break;
     case NADRELGOS_EVENT_FRAME: answer = ct_hear(c, nodes, NADRELGOS_NODES, received, count, out, room); break;
     case NADRELGOS_EVENT_QUIET: answer = ct_quiet(c, nodes, NADRELGOS_NODES); break;
-    default: answer = ct_join(c, nodes, NADRELGOS_NODES, kind, mac, session); break;
+    default:
+        answer = ct_join(c, nodes, NADRELGOS_NODES, joiner->kind, joiner->mac, joiner->session, joiner->version);
+        break;
     }
     return packed(answer);
 }
@@ -30,7 +32,7 @@ uint64_t step_counterpart(struct panel *p, uint8_t event, uint8_t kind, uint64_t
 
 static bool same_node(const ct_node *a, const ct_node *b) {
     return a->kind == b->kind && a->mac == b->mac && a->session == b->session && a->misses == b->misses &&
-           a->owed == b->owed && a->index == b->index;
+           a->owed == b->owed && a->index == b->index && a->version == b->version;
 }
 
 static bool same_setup(const struct nadrelgos_settings *a, const struct nadrelgos_settings *b) {
@@ -45,7 +47,7 @@ static bool same_kept(const struct nadrelgos_kept *a, const struct nadrelgos_kep
 }
 
 static bool same_found(const struct nadrelgos_found *a, const struct nadrelgos_found *b) {
-    return a->kind == b->kind && a->mac == b->mac && a->session == b->session;
+    return a->kind == b->kind && a->version == b->version && a->mac == b->mac && a->session == b->session;
 }
 
 static bool same_panel(const struct panel *a, const struct panel *b) {
@@ -132,16 +134,29 @@ static bool same_wire(void) {
 
 /* ---- steps ---- */
 
+static const uint8_t nothing[1];
+static const struct ct_joiner nobody;
+
 /* The same step on both; what they leave must be the same. */
-static bool same_step(struct panel *ours, struct panel *theirs, uint8_t event, uint8_t kind, uint64_t mac,
-                      uint64_t session, const uint8_t *received, size_t count, size_t room) {
+static bool same_step(struct panel *ours, struct panel *theirs, uint8_t event, struct ct_joiner joiner,
+                      const uint8_t *received, size_t count, size_t room) {
     uint8_t a[CT_FRAME + 8], b[CT_FRAME + 8];
     memset(a, 0xEE, sizeof a);
     memset(b, 0xEE, sizeof b);
-    uint64_t x = nadrelgos_step(&ours->coordinator, ours->nodes, NADRELGOS_NODES, event, kind, mac, session, received,
-                                count, a, room);
-    uint64_t y = step_counterpart(theirs, event, kind, mac, session, received, count, b, room);
+    uint64_t x = nadrelgos_step(&ours->coordinator, ours->nodes, NADRELGOS_NODES, event, joiner.kind, joiner.mac,
+                                joiner.session, joiner.version, received, count, a, room);
+    uint64_t y = step_counterpart(theirs, event, &joiner, received, count, b, room);
     return x == y && memcmp(a, b, sizeof a) == 0 && same_panel(ours, theirs);
+}
+
+/* Mostly the board's own subnet, else ours, that of 1.0 boards, or any. */
+static uint8_t random_subnet(const ct_node *n, uint64_t *seed) {
+    switch (next_random(seed) % 16) {
+    case 0: return (uint8_t)next_random(seed);
+    case 1: return SUBNET;
+    case 2: return NADRELGOS_OLD_SUBNET;
+    default: return n->version == NADRELGOS_VERSION_1_0 ? NADRELGOS_OLD_SUBNET : SUBNET;
+    }
 }
 
 /* A frame that the wait may take, or nearly. */
@@ -165,7 +180,7 @@ static size_t random_frame(const struct panel *p, uint64_t *seed, uint8_t *out) 
         static const uint8_t commands[] = {100, 101, 102, 105, 106, 2, 3, 9, 21, 0, 1, 40};
         struct ct_header header = {.destination = 255,
                                    .source = c->setup.pool[board - 1],
-                                   .subnet = next_random(seed) % 16 ? SUBNET : (uint8_t)next_random(seed),
+                                   .subnet = random_subnet(&n, seed),
                                    .method = (uint8_t)(next_random(seed) % 5),
                                    .parameter1 = commands[next_random(seed) % sizeof commands],
                                    .parameter2 = 1,
@@ -174,11 +189,7 @@ static size_t random_frame(const struct panel *p, uint64_t *seed, uint8_t *out) 
                                    .packet = 9};
         if (c->stand.stage == CT_STAGE_WAIT_LIST) {
             header.message = 0x94;
-            length = 1;
-            for (size_t i = 0; i < NADRELGOS_NODES; i++) {
-                payload[1 + i] = nodes[i].kind;
-                if (nodes[i].kind) length = i + 2;
-            }
+            length = ct_list(c, nodes, board, payload);
             if (next_random(seed) % 8 == 0) payload[length - 1]++;
         } else if (c->stand.stage == CT_STAGE_WAIT_FORWARD || c->stand.stage == CT_STAGE_WAIT_FORWARD_ACKED) {
             header.message = (uint8_t)(c->kept.message + 128);
@@ -192,13 +203,15 @@ static size_t random_frame(const struct panel *p, uint64_t *seed, uint8_t *out) 
     return count - (next_random(seed) % 32 == 0);
 }
 
-/* One bit of what is lent is changed for one step: anywhere in the coordinator or the records, or in an index. */
+/* One bit of what is lent is changed for one step: anywhere in the coordinator or the records, in an index or in a
+   version. */
 static void spoil(struct panel *p, uint64_t *seed) {
     uint8_t *byte;
-    switch (next_random(seed) % 3) {
+    switch (next_random(seed) % 4) {
     case 0: byte = (uint8_t *)&p->coordinator + next_random(seed) % sizeof p->coordinator; break;
     case 1: byte = (uint8_t *)p->nodes + next_random(seed) % sizeof p->nodes; break;
-    default: byte = &p->nodes[next_random(seed) % NADRELGOS_NODES].index; break;
+    case 2: byte = &p->nodes[next_random(seed) % NADRELGOS_NODES].index; break;
+    default: byte = &p->nodes[next_random(seed) % NADRELGOS_NODES].version; break;
     }
     *byte ^= (uint8_t)(1 << next_random(seed) % 8);
 }
@@ -207,6 +220,7 @@ static bool same_play(size_t boards, size_t steps) {
     struct panel ours, theirs;
     uint64_t seed = boards;
     make_panel(&theirs, boards, 0);
+    for (size_t i = 1; i < boards; i += 2) theirs.nodes[i].version = NADRELGOS_VERSION_1_0;
     ours = theirs;
     for (size_t i = 0; i < steps; i++) {
         uint8_t received[CT_FRAME + 1];
@@ -217,15 +231,15 @@ static bool same_play(size_t boards, size_t steps) {
                         : pick < 13 ? NADRELGOS_EVENT_FRAME
                         : pick < 14 ? NADRELGOS_EVENT_QUIET
                                     : NADRELGOS_EVENT_JOIN;
+        uint8_t kind = (uint8_t)(next_random(&seed) % 7), version = (uint8_t)(next_random(&seed) % 4);
+        struct ct_joiner joiner = {kind, 0xA0B0C0D0E000 + board, i, version};
         if (next_random(&seed) % 8 == 0) {
             struct panel spoilt = theirs;
             spoil(&spoilt, &seed);
             struct panel same = spoilt;
-            if (!same_step(&same, &spoilt, event, 3, 0xA0B0C0D0E000 + board, i, received, count, room)) return false;
+            if (!same_step(&same, &spoilt, event, joiner, received, count, room)) return false;
         }
-        if (!same_step(&ours, &theirs, event, (uint8_t)(next_random(&seed) % 7), 0xA0B0C0D0E000 + board, i, received,
-                       count, room))
-            return false;
+        if (!same_step(&ours, &theirs, event, joiner, received, count, room)) return false;
     }
     return true;
 }
@@ -237,59 +251,106 @@ static bool same_round(size_t boards) {
         struct panel ours, theirs, waiting;
         make_panel(&theirs, boards, last);
         ours = theirs;
-        if (!same_step(&ours, &theirs, NADRELGOS_EVENT_TURN, 0, 0, 0, ack, 0, CT_FRAME) ||
+        if (!same_step(&ours, &theirs, NADRELGOS_EVENT_TURN, nobody, ack, 0, CT_FRAME) ||
             theirs.coordinator.stand.stage != CT_STAGE_WAIT_OFFER)
             return false;
         waiting = theirs;
         size_t count = make_ack(&theirs.coordinator, theirs.nodes, theirs.coordinator.stand.board, ack);
-        if (!same_step(&ours, &theirs, NADRELGOS_EVENT_FRAME, 0, 0, 0, ack, count, CT_FRAME) ||
+        if (!same_step(&ours, &theirs, NADRELGOS_EVENT_FRAME, nobody, ack, count, CT_FRAME) ||
             theirs.coordinator.stand.stage != CT_STAGE_RESTING)
             return false;
         ours = theirs = waiting;
-        if (!same_step(&ours, &theirs, NADRELGOS_EVENT_QUIET, 0, 0, 0, ack, 0, CT_FRAME) ||
+        if (!same_step(&ours, &theirs, NADRELGOS_EVENT_QUIET, nobody, ack, 0, CT_FRAME) ||
             theirs.coordinator.stand.stage != CT_STAGE_RESTING)
             return false;
     }
     return true;
 }
 
-static const uint8_t nothing[1];
+/* And the lists, to a board of either version at each position. */
+static bool same_lists(size_t boards) {
+    for (size_t position = 1; position <= boards; position++)
+        for (uint8_t version = NADRELGOS_VERSION_1_0; version <= NADRELGOS_VERSION_LATER; version++) {
+            struct panel ours, theirs;
+            make_panel(&theirs, boards, 0);
+            owe_list(&theirs, position, version);
+            ours = theirs;
+            if (!same_step(&ours, &theirs, NADRELGOS_EVENT_TURN, nobody, nothing, 0, CT_FRAME) ||
+                theirs.coordinator.stand.stage != CT_STAGE_WAIT_LIST)
+                return false;
+        }
+    return true;
+}
 
 /* What a play does not come to by chance: nobody listed, a full table, a board that leaves while joins are held. */
 static bool same_corners(void) {
     struct panel ours, theirs;
     make_panel(&theirs, NADRELGOS_NODES, 0);
     ours = theirs;
-    if (!same_step(&ours, &theirs, NADRELGOS_EVENT_JOIN, 2, 1, 1, nothing, 0, 0) ||
-        !same_step(&ours, &theirs, NADRELGOS_EVENT_JOIN, 2, 0, 1, nothing, 0, 0))
+    const struct ct_joiner good = {2, 1, 1, 2}, bad = {2, 0, 1, 2};
+    if (!same_step(&ours, &theirs, NADRELGOS_EVENT_JOIN, good, nothing, 0, 0) ||
+        !same_step(&ours, &theirs, NADRELGOS_EVENT_JOIN, bad, nothing, 0, 0))
         return false;
     make_panel(&theirs, 0, 0);
     ours = theirs;
-    if (!same_step(&ours, &theirs, NADRELGOS_EVENT_TURN, 0, 0, 0, nothing, 0, CT_FRAME) ||
-        !same_step(&ours, &theirs, NADRELGOS_EVENT_JOIN, 2, 1, 1, nothing, 0, 0))
+    if (!same_step(&ours, &theirs, NADRELGOS_EVENT_TURN, nobody, nothing, 0, CT_FRAME) ||
+        !same_step(&ours, &theirs, NADRELGOS_EVENT_JOIN, good, nothing, 0, 0))
         return false;
     for (int i = 0; i < 3; i++) {
         theirs.nodes[0].owed = ours.nodes[0].owed = 1;
-        if (!same_step(&ours, &theirs, NADRELGOS_EVENT_TURN, 0, 0, 0, nothing, 0, CT_FRAME) ||
-            !same_step(&ours, &theirs, NADRELGOS_EVENT_QUIET, 0, 0, 0, nothing, 0, 0))
+        if (!same_step(&ours, &theirs, NADRELGOS_EVENT_TURN, nobody, nothing, 0, CT_FRAME) ||
+            !same_step(&ours, &theirs, NADRELGOS_EVENT_QUIET, nobody, nothing, 0, 0))
             return false;
     }
     return theirs.nodes[0].kind == 0 && theirs.coordinator.held == 0;
 }
 
-/* Every number as the index of every record, listed or free: the right one and all that are wrong. */
-static bool same_indexes(void) {
+/* Every number as a byte of every record, listed or free: those that are right and all that are wrong. */
+static bool same_bytes(size_t offset) {
     struct panel fit;
     make_panel(&fit, NADRELGOS_NODES / 2, 0);
     for (size_t i = 0; i < NADRELGOS_NODES; i++)
-        for (unsigned index = 0; index <= UINT8_MAX; index++)
+        for (unsigned number = 0; number <= UINT8_MAX; number++)
             for (uint8_t event = NADRELGOS_EVENT_JOIN; event <= NADRELGOS_EVENT_QUIET; event++) {
                 struct panel ours = fit, theirs;
-                ours.nodes[i].index = (uint8_t)index;
+                *((uint8_t *)&ours.nodes[i] + offset) = (uint8_t)number;
                 theirs = ours;
-                if (!same_step(&ours, &theirs, event, 3, 1, 1, nothing, 0, CT_FRAME)) return false;
+                if (!same_step(&ours, &theirs, event, (struct ct_joiner){3, 1, 1, 2}, nothing, 0, CT_FRAME))
+                    return false;
             }
     return true;
+}
+
+/* A panel whose boards are of so many types by turns, and the one at position `old`, if any, a 1.0 board. */
+static void make_typed(struct panel *p, size_t boards, size_t types, size_t old) {
+    make_panel(p, boards, 0);
+    for (size_t i = 0; i < boards; i++) {
+        p->nodes[i].kind = (uint8_t)(2 + i % types);
+        p->nodes[i].index = (uint8_t)(i / types);
+    }
+    if (old) p->nodes[old - 1].version = NADRELGOS_VERSION_1_0;
+}
+
+/* Joins where there are about as many types as a 1.0 board allows, with such a board at each position or at none: of a
+   new board or a listed one, of a type that is there or another, of either version, at a full table or not. */
+static bool same_types(size_t boards, size_t types, size_t old) {
+    for (unsigned joiner = 0; joiner < 8; joiner++) {
+        struct panel ours, theirs;
+        make_typed(&theirs, boards, types, old);
+        ours = theirs;
+        struct ct_joiner who = {joiner & 1 ? 3 : 99, joiner & 2 ? theirs.nodes[boards - 1].mac : 1, 1,
+                                joiner & 4 ? NADRELGOS_VERSION_1_0 : NADRELGOS_VERSION_LATER};
+        if (!same_step(&ours, &theirs, NADRELGOS_EVENT_JOIN, who, nothing, 0, 0)) return false;
+    }
+    return true;
+}
+
+static bool same_old(void) {
+    for (size_t boards = NADRELGOS_NODES - 3; boards <= NADRELGOS_NODES; boards++)
+        for (size_t types = NADRELGOS_OLD_TYPES - 1; types <= NADRELGOS_OLD_TYPES + 2; types++)
+            for (size_t old = 0; old <= boards; old++)
+                if (!same_types(boards, types, old)) return false;
+    return same_bytes(offsetof(ct_node, version));
 }
 
 static bool same_setup_of(const uint8_t *pool, size_t k, size_t nodes_count, uint64_t mac) {
@@ -361,8 +422,8 @@ static bool said(const char *what, bool same) {
 static bool same_steps(void) {
     static const size_t boards[] = {1, 8, 40};
     for (size_t i = 0; i < 3; i++)
-        if (!same_round(boards[i]) || !same_play(boards[i], 20000)) return false;
-    return same_corners() && same_indexes();
+        if (!same_round(boards[i]) || !same_lists(boards[i]) || !same_play(boards[i], 20000)) return false;
+    return same_corners() && same_bytes(offsetof(ct_node, index)) && same_old();
 }
 
 bool all_same(void) {

@@ -11,7 +11,7 @@
  * and its code. This header is not proved: it restates those definitions for whoever writes the firmware.
  * The archives are for x86-64; the assertions at the end stop a build whose records would be laid out otherwise. Of C's
  * library libpanel.a needs memcpy and memset and libencapsulation.a memcpy; the others need nothing. A call of
- * libpanel.a takes up to some 1.5 kilobytes of stack, one of libencapsulation.a up to 0.7, one of libshared.a less than
+ * libpanel.a takes up to some 1.7 kilobytes of stack, one of libencapsulation.a up to 0.7, one of libshared.a less than
  * 0.1: `hosts/c/run stack` measures them.
  *
  * WHO OWNS WHAT
@@ -78,6 +78,26 @@
  *   the exchange off, and the same boards are listed as before. Quiet in the exchange is a miss for no board. While it
  *   runs no other join or discovery is taken (14). It has at most six accepted steps.
  *
+ * BOARDS THAT SPEAK 1.0
+ *   Each board has a version: 1 where it speaks ClimateTalk 1.0, 2 where it speaks a later one. Where a discovery finds
+ *   the board, the panel knows it by itself: a 1.0 board sets bit 5 of its answer's packet number (API Reference, 4.3),
+ *   and the whole exchange goes by it, so that somebody who has the address at stake joins as the same version. A host
+ *   that brings a join itself tells it; where it cannot know, 2. It stands in the record, and a join replaces it as it
+ *   does the type. What it changes:
+ *     subnet     a 1.0 board is in subnet 2, NADRELGOS_OLD_SUBNET, whatever ours is: Set Address assigns it, and every
+ *                frame to the board has it (Networking Specification, 11.11). Frames of subnet 2 are taken while a 1.0
+ *                board is awaited or was found, and in search; else they get 24. Of two systems on one line only one
+ *                can have 1.0 boards.
+ *     node list  the list to a 1.0 board has 16 bytes, always (8.1.2.4): the internal type, then each listed type once.
+ *                The lowest 1.0 board of a type stands at its position, where that is at most 15; the other types go
+ *                into the lowest bytes that are open, by their lowest positions. The rest are 0.
+ *     types      while a 1.0 board is listed there are at most 15 different types: a join that would bring more is
+ *                refused 25, and a board that was found and would bring more breaks the exchange off.
+ *   All else is the same for either version, and so is what is promised of boards.
+ *   FRAMES OF SUBNET 2 HAVE TO REACH nadrelgos_frame. A host that cuts the line's bytes by nadrelgos_find looks for
+ *   both subnets, ours and 2: see there. Whoever filters by the subnet elsewhere, as in an interrupt, lets 2 pass too.
+ *   Which of them is taken is for the step to say.
+ *
  * HOW LONG TO WAIT
  *   Three seconds in each wait, and three more where an ACK was answered by NADRELGOS_WAIT (Networking Specification,
  *   7.8 and 11.11). In search a board may take 2.5 seconds before it begins (11.1). Do not cut identify short: the
@@ -108,9 +128,10 @@
  *   one whole message, which may hold another in the same way, up to four levels deep. Give the whole frame that was
  *   received, not only its payload, to nadrelgos_unwrap: where it is not refused, the plain message's type is `message`
  *   and its payload `length` bytes from received + start on. A frame of any other type is its own plain message, in no
- *   level. What is refused is nobody's message: take nothing from it, the outer levels included. nadrelgos_wrap writes
- *   such a frame, to be sent by whoever sends frames of his own; the panel carries an encapsulation that one board
- *   sends to another as any other request, and opens none.
+ *   level. Of a delivered frame the step has judged the subnet: give its own, received[2], as ours, since a 1.0 board's
+ *   is another. What is refused is nobody's message: take nothing from it, the outer levels included. nadrelgos_wrap
+ *   writes such a frame, to be sent by whoever sends frames of his own; the panel carries an encapsulation that one
+ *   board sends to another as any other request, and opens none.
  *
  * SHARED DATA
  *   Boards keep their settings in the network, so that a board that is put in the place of another finds them (API
@@ -125,12 +146,12 @@
  *           nadrelgos_shared_holder says where the record stands, nadrelgos_shared_answer writes the payload of the
  *           response, type 0x91: sector and record, or no byte where neither image has one. The panel answers what is
  *           delivered with the ACK, and no call of it makes a response: the payload is for the host to use or to show.
- *   Keep the network's copy in memory that outlives a power failure. A store is not done at one stroke, and a failure in
- *   its midst may leave a slot with a part of its record: so lend working memory, and after each store that is not
- *   refused write to the lasting one only the bytes that this store wrote, `length` of them from network + start on, the
- *   second of them, the record's length, last. A new image is all 0, or all 255 as erased flash is: either has forty
- *   free slots. A host that has no factory data lends such bytes as the factory image, or the network's copy itself
- *   once more: who looks for a record only reads.
+ *   Keep the network's copy in memory that outlives a power failure. A store is not done at one stroke, and a failure
+ *   in its midst may leave a slot with a part of its record: so lend working memory, and after each store that is not
+ *   refused write to the lasting one only the bytes that this store wrote, `length` of them from network + start on,
+ *   the second of them, the record's length, last. A new image is all 0, or all 255 as erased flash is: either has
+ *   forty free slots. A host that has no factory data lends such bytes as the factory image, or the network's copy
+ *   itself once more: who looks for a record only reads.
  *
  * READING THE RECORDS
  *   Between calls the host may read every field, as for its screen: the table is the list of who is there, with the
@@ -140,10 +161,16 @@
  *   the fields have no meaning: compare by fields.
  *
  * RECORDS THAT THE HOST MAKES
- *   A table that the host makes itself, or brings back from where it was stored, must have the right index in every
- *   record, 0 in a free one, or every step is refused 22. One that was stored by a firmware whose records had no index
- *   has padding in its place, any byte. nadrelgos_clear at position 0, which names nobody, counts the index of every
- *   record and changes nothing else; or list the boards anew by nadrelgos_list, which counts them all too.
+ *   A table that the host makes itself, or brings back from where it was stored, must have the right index and a
+ *   version in every record, 0 and 0 in a free one, or every step is refused 22. One that was stored by a firmware
+ *   whose records had no index or no version has padding in its place: mostly 0, but any byte. The record has 32 bytes
+ *   as before.
+ *     index      nadrelgos_clear at position 0, which names nobody, counts the index of every record and changes
+ *                nothing else; or list the boards anew by nadrelgos_list, which counts them all too.
+ *     version    write 2 into every listed record and 0 into every free one. A 1.0 board among them goes on as it did,
+ *                in our subnet, which the earlier firmware gave it, and is found as one when it joins anew. Do not
+ *                write 1 for it: it would be sought in subnet 2, where it is not, and be dropped. Or leave the stored
+ *                table: call nadrelgos_setup, and all boards are found again, each with its version.
  */
 #ifndef NADRELGOS_H
 #define NADRELGOS_H
@@ -165,6 +192,19 @@ extern "C" {
 /* A MAC is a number from 1 to this one, 2^56 - 1. On the wire MAC and session go low byte first. */
 #define NADRELGOS_MAC_MAX UINT64_C(0x00FFFFFFFFFFFFFF)
 
+/* The subnet of boards that speak 1.0. */
+#define NADRELGOS_OLD_SUBNET 2
+
+/* The bytes of the node list to such a board, and how many different types may be listed while one is. */
+#define NADRELGOS_OLD_LIST 16
+#define NADRELGOS_OLD_TYPES 15
+
+/* A board's version. */
+enum nadrelgos_version_number {
+    NADRELGOS_VERSION_1_0 = 1,  /* it speaks ClimateTalk 1.0 */
+    NADRELGOS_VERSION_LATER = 2 /* it speaks 2.0, or any later one */
+};
+
 /*
  * What the panel knows of the board at one position. Position p, from 1 on, is nodes[p - 1], and its address is
  * coordinator->setup.pool[p - 1]. A free position's record is all zeros.
@@ -178,13 +218,15 @@ struct nadrelgos_node {
     uint8_t index;    /* how many boards of its type are listed at lower positions, 0 to 39: it moves as these come, go
                          and change their types. Parameter 2 of the panel's own frames to it, and of its requests that
                          are forwarded */
+    uint8_t version;  /* one of enum nadrelgos_version_number, as its last join gave it; 0 where the position is free */
 };
 
 /* What setup was told. */
 struct nadrelgos_settings {
     uint8_t pool[40]; /* the addresses, rising; zeros past the first k */
     size_t k;         /* how many there are: positions are 1 to k */
-    uint8_t subnet;   /* our subnet: of every frame to a board, and of every frame that is read, but for those of 0 */
+    uint8_t subnet;   /* our subnet: of every frame to a board and of every frame that is read, but for those to and
+                         from 1.0 boards, which have NADRELGOS_OLD_SUBNET, and for those of 0 */
     uint8_t internal; /* byte 0 of the node list: the type of the virtual internal subordinate */
     uint64_t mac;     /* the panel's own MAC and session, in its offers and ACKs */
     uint64_t session;
@@ -216,6 +258,7 @@ struct nadrelgos_kept {
 /* The board that a discovery has found: stages 9 to 13. Zeros in every other stage, where it is not looked at. */
 struct nadrelgos_found {
     uint8_t kind;     /* its node type, neither 0 nor 165 */
+    uint8_t version;  /* one of enum nadrelgos_version_number, by bit 5 of its answer's packet number */
     uint64_t mac;     /* 1 to NADRELGOS_MAC_MAX */
     uint64_t session; /* by which it knows Set Address as its own */
 };
@@ -244,7 +287,7 @@ enum nadrelgos_answer_number {
 /* What the awaited board was sent: byte 3 of an answer that waits. The last three: the exchange by which one joins. */
 enum nadrelgos_exchange_number {
     NADRELGOS_OFFER = 1,    /* the bus; it answers an ACK, or a request of its own */
-    NADRELGOS_LIST = 2,     /* the node list; it answers the same list */
+    NADRELGOS_LIST = 2,     /* the node list, in the form of its version; it answers the same list */
     NADRELGOS_FORWARD = 3,  /* another board's request; it answers the response, or an ACK and then the response */
     NADRELGOS_RETURN = 4,   /* the response to its own request; it answers an ACK */
     NADRELGOS_SEARCH = 5,   /* Node Discovery, to all; a board without an address answers type, MAC and session */
@@ -255,7 +298,7 @@ enum nadrelgos_exchange_number {
 
 /* What has happened: the event of a step. The wrappers below name it. */
 enum nadrelgos_event_number {
-    NADRELGOS_EVENT_JOIN = 1,    /* a board has joined: kind, mac, session */
+    NADRELGOS_EVENT_JOIN = 1,    /* a board has joined: kind, mac, session, version */
     NADRELGOS_EVENT_TURN = 2,    /* the line is free: out */
     NADRELGOS_EVENT_FRAME = 3,   /* bytes came in: received, out */
     NADRELGOS_EVENT_QUIET = 4,   /* no answer came in time */
@@ -268,10 +311,10 @@ enum nadrelgos_event_number {
  * does next. "Listen on" means: the wait, where one is on, is still on. Drop the bytes and go on listening until a
  * frame ends the wait; when the reply timer has run out, call nadrelgos_quiet. "The exchange" is the one by which a
  * board joins: stages 8 to 13. Where more than one holds, the first in this order is given: 22; then in setup 21, 13;
- * in a join 12 to 16; in a discover 14, 15, 16, 11; in a turn 18, 19, 11; in a frame 1 to 4, 24, 5, 23, 6 to 9, 11; in
- * a quiet 20. Of a text or a fault 32, 33, and where it is written 11. Of a message inside messages 1 to 4, 24, then
- * level by level 31, 30; where it is written 31, 10, 11. Of shared data 22, then where it is stored 26, 27, and where
- * the response's payload is written 11.
+ * in a join 12 to 15, 25, 16; in a discover 14, 15, 16, 11; in a turn 18, 19, 11; in a frame 1 to 4, 24, 5, 23, 6 to 9,
+ * 11; in a quiet 20. Of a text or a fault 32, 33, and where it is written 11. Of a message inside messages 1 to 4, 24,
+ * then level by level 31, 30; where it is written 31, 10, 11. Of shared data 22, then where it is stored 26, 27, and
+ * where the response's payload is written 11.
  */
 enum nadrelgos_refusal_number {
     NADRELGOS_ACCEPTED = 0,
@@ -283,10 +326,11 @@ enum nadrelgos_refusal_number {
     NADRELGOS_BAD_CHECKSUM = 4,    /* its two sums are not 0 */
 
     /* a frame: good, and of another system. Listen on. */
-    NADRELGOS_OTHER_SUBNET = 24, /* its subnet, byte 2, is neither ours nor 0. If this is common, another system is on
-                                    the line, as where two run through one conduit: see that they have two subnets, and
-                                    that no board has the other's. If it is given for our own boards, they have kept a
-                                    subnet of an earlier setup: they have ours once they have joined anew */
+    NADRELGOS_OTHER_SUBNET = 24, /* its subnet, byte 2, is neither ours nor 0; 2 is taken beside these while the board
+                                    awaited or found is a 1.0 board, and in search. If this is common, another system is
+                                    on the line, as where two run through one conduit: see that they have two subnets,
+                                    and that no board has the other's. If it is given for our own boards, they have kept
+                                    a subnet of an earlier setup: they have theirs once they have joined anew */
 
     /* a frame: good, and not what is awaited. Listen on. */
     NADRELGOS_NOT_FOR_US = 5,       /* its destination is not 255, the coordinator */
@@ -316,16 +360,23 @@ enum nadrelgos_refusal_number {
                                         NADRELGOS_SHARED_ROOM suffices */
 
     /* a join, and where it says so a discover */
-    NADRELGOS_BAD_TYPE = 12,      /* node type 0 or 165; also an event number that is none of the five. Give it up */
-    NADRELGOS_BAD_MAC = 13,       /* a MAC of 0 or above NADRELGOS_MAC_MAX, in a setup too. Give it up */
-    NADRELGOS_BUSY = 14,          /* a join, a discover: a wait is on, a forward, a return or a list is due, or the
-                                     exchange is running. Keep the join, go on with turns, and try again after each step
-                                     that leaves no wait */
-    NADRELGOS_HELD = 15,          /* a join, a discover: no offer was made since the last join. A discover: someone is
-                                     listed, and none was made since the last discovery. The same */
-    NADRELGOS_FULL = 16,          /* a join of a new MAC, a discover: all k positions are taken. Try again when a board
-                                     was dropped. Until then a listed board that has lost its address is not found
-                                     either */
+    NADRELGOS_BAD_TYPE = 12,       /* node type 0 or 165; also an event number that is none of the five. Give it up */
+    NADRELGOS_BAD_MAC = 13,        /* a MAC of 0 or above NADRELGOS_MAC_MAX, in a setup too. Give it up */
+    NADRELGOS_BUSY = 14,           /* a join, a discover: a wait is on, a forward, a return or a list is due, or the
+                                      exchange is running. Keep the join, go on with turns, and try again after each
+                                      step that leaves no wait */
+    NADRELGOS_HELD = 15,           /* a join, a discover: no offer was made since the last join. A discover: someone is
+                                      listed, and none was made since the last discovery. The same */
+    NADRELGOS_TOO_MANY_TYPES = 25, /* a join, with room or without: it would leave a 1.0 board listed, the joiner or
+                                      another, and more than 15 different node types with the joiner's. Try again when a
+                                      board was dropped. Tell the installer: a board of a type that is there already can
+                                      join; for one of another type, put a later board in place of each 1.0 board, or
+                                      take out all boards of one type. No other call answers it: a board that was found
+                                      and would bring too many breaks the exchange off, at a frame that is answered by
+                                      NADRELGOS_REST in search, or by NADRELGOS_TRANSMIT without a position joined */
+    NADRELGOS_FULL = 16,           /* a join of a new MAC, a discover: all k positions are taken. Try again when a board
+                                      was dropped. Until then a listed board that has lost its address is not found
+                                      either */
     /* 17 is retired, and is given to nothing else. It was the address clash: that the address chosen for a new MAC is
        listed already. That cannot be, since the pool rises strictly, and no call answers it */
 
@@ -344,8 +395,9 @@ enum nadrelgos_refusal_number {
     NADRELGOS_STATE_UNFIT = 22, /* nodes_count is not 40; or, in a step, coordinator and table are not fit: no setup
                                    was accepted, or something else has written to them. Call nadrelgos_setup; the boards
                                    have to join again. Where the host has made or stored the table itself, look at its
-                                   indexes first: see RECORDS THAT THE HOST MAKES. Of shared data: an image is not
-                                   NADRELGOS_IMAGE bytes long. Lend it whole */
+                                   indexes and versions first: see RECORDS THAT THE HOST MAKES. A version is 1 or 2, 0
+                                   where the position is free; and with a 1.0 board listed there are at most 15 types.
+                                   Of shared data: an image is not NADRELGOS_IMAGE bytes long. Lend it whole */
 
     /* shared data to be stored. The network's copy is as it was, and so is what the sector had */
     NADRELGOS_BAD_LENGTH = 26, /* the record is not 6 to 200 bytes long. The board that sent it is wrong: leave it */
@@ -392,14 +444,14 @@ uint64_t nadrelgos_setup(struct nadrelgos_coordinator *coordinator, struct nadre
  *
  *   coordinator, nodes     the records that setup has written, updated where they stand
  *   event                  one of enum nadrelgos_event_number. Any other is a join of node type 0: always refused
- *   kind, mac, session     looked at in a join only
+ *   kind .. version        looked at in a join only: see nadrelgos_join
  *   received, .._count     looked at in a frame only: the bytes of one whole frame, check bytes included
  *   out, out_count         written in a turn, a frame and a discover only: the frame to send, at the front. Bytes past
  *                          it stay
  */
 uint64_t nadrelgos_step(struct nadrelgos_coordinator *coordinator, struct nadrelgos_node *nodes, size_t nodes_count,
-                        uint8_t event, uint8_t kind, uint64_t mac, uint64_t session, const uint8_t *received,
-                        size_t received_count, uint8_t *out, size_t out_count);
+                        uint8_t event, uint8_t kind, uint64_t mac, uint64_t session, uint8_t version,
+                        const uint8_t *received, size_t received_count, uint8_t *out, size_t out_count);
 
 /*
  * One node record listed, cleared or marked, for tools and tests, and for indexes to be counted (RECORDS THAT THE HOST
@@ -411,14 +463,16 @@ uint64_t nadrelgos_step(struct nadrelgos_coordinator *coordinator, struct nadrel
  *
  * List and clear count the index of every one of the forty records, whatever stood there, also where the position names
  * nobody; mark changes none. Whether the records are fit afterwards is not tested here: the next step tests it, and
- * refuses 22 where they are not, as with a MAC that is listed twice or a board cleared that a wait names.
+ * refuses 22 where they are not, as with a MAC that is listed twice, a board cleared that a wait names, or a sixteenth
+ * type beside a 1.0 board.
  *
  * Each answers NADRELGOS_REST and all else 0, or refuses 22 where nodes_count is not 40.
  */
 
-/* A new board's record at the position, whatever stood there: no misses, no list owed. */
+/* A new board's record at the position, whatever stood there: no misses, no list owed. Its version is 1 where that is
+   told, and 2 by every other number. */
 uint64_t nadrelgos_list(struct nadrelgos_node *nodes, size_t nodes_count, size_t position, uint8_t kind, uint64_t mac,
-                        uint64_t session);
+                        uint64_t session, uint8_t version);
 
 /* The position freed: all zeros. */
 uint64_t nadrelgos_clear(struct nadrelgos_node *nodes, size_t nodes_count, size_t position);
@@ -444,16 +498,22 @@ struct nadrelgos_finding {
  * The first good frame in bytes as the line brought them, where noise or several frames may stand between two silences.
  * It is in libfinder.a.
  *
- *   ours                   our subnet, as setup was told it
+ *   ours                   our subnet, as setup was told it; or NADRELGOS_OLD_SUBNET, for the frames of 1.0 boards
  *   bytes, count           what came in. It is only read
  *   budget                 how many starts are tried at most: the time is bounded by it. count always suffices
  *
  * A start is a place with at least 12 bytes from it to the end; they are tried from the first on. One holds a good
  * frame if its payload length, the byte 9 places on, is at most 240, 12 bytes and that many more are there, their two
  * sums are 0, and its subnet, the byte 2 places on, is ours or 0: nadrelgos_frame, given length bytes at bytes + start,
- * never refuses them 1 to 4 or 24. A frame of another system is passed over byte by byte, so that one of ours in its
- * payload would be found. After a frame a host goes on at start + length, after NADRELGOS_SPENT at tried, with the bytes
- * that are left.
+ * never refuses them 1 to 4, nor 24 where ours is setup's. A frame of another system is passed over byte by byte, so
+ * that one of ours in its payload would be found. After a frame a host goes on at start + length, after NADRELGOS_SPENT
+ * at tried, with the bytes that are left.
+ *
+ * Where boards may speak 1.0, look with our subnet and, where that is another, with NADRELGOS_OLD_SUBNET, and take the
+ * frame that begins earlier: it is the first good one of either subnet or 0. Two that begin at one place are the same.
+ * Go on with both behind its end. What a search has found holds until that place is passed, and that it has found
+ * nothing until more bytes come, so that each start is tried once by either: hosts/linux/cutter.c does it. A frame of
+ * subnet 2 may still get 24 by the step.
  */
 struct nadrelgos_finding nadrelgos_find(uint8_t ours, const uint8_t *bytes, size_t count, size_t budget);
 
@@ -553,7 +613,7 @@ struct nadrelgos_header {
 /*
  * Messages inside messages, in libencapsulation.a.
  *
- *   ours                   our subnet, as setup was told it
+ *   ours                   the subnet that is taken beside 0: of a frame that was delivered, its own, received[2]
  *   received, .._count     what came in: the bytes of one whole frame, check bytes included. It is only read
  *   header                 as of the frame that would carry the message plain: type and packet number are those of the
  *                          message inside. Of the frame that is written they are 0x7E and the first level's packet
@@ -668,17 +728,23 @@ static inline size_t nadrelgos_written(uint64_t answer) { return (size_t)(answer
 
 /*
  * A board has joined by other means than a discovery, as where the host has set its address itself. It is told as a
- * finished fact. A new MAC gets the lowest free position; a listed one keeps its position, has its type and its
- * session replaced and its misses cleared: lists, indexes and routes follow the new type at once. The list is then
- * owed to every board. Indexes are right in every record afterwards, also in those of boards that were not named.
- * Refused 22, 12 to 16.
+ * finished fact. A new MAC gets the lowest free position; a listed one keeps its position, has its type, its session
+ * and its version replaced and its misses cleared: lists, indexes and routes follow the new type at once. The list is
+ * then owed to every board. Indexes are right in every record afterwards, also in those of boards that were not named.
+ *
+ *   kind                   its node type, neither 0 nor 165
+ *   mac, session           1 to NADRELGOS_MAC_MAX; any number
+ *   version                1 where it speaks 1.0, and has its address in subnet 2; every other number counts as 2, a
+ *                          later one, in our subnet: one of enum nadrelgos_version_number
+ *
+ * Refused 22, 12 to 15, 25, 16.
  */
 static inline uint64_t nadrelgos_join(struct nadrelgos_coordinator *coordinator, struct nadrelgos_node *nodes,
-                                      uint8_t kind, uint64_t mac, uint64_t session) {
+                                      uint8_t kind, uint64_t mac, uint64_t session, uint8_t version) {
     const uint8_t no_bytes = 0;
     uint8_t no_room = 0;
-    return nadrelgos_step(coordinator, nodes, NADRELGOS_NODES, NADRELGOS_EVENT_JOIN, kind, mac, session, &no_bytes, 0,
-                          &no_room, 0);
+    return nadrelgos_step(coordinator, nodes, NADRELGOS_NODES, NADRELGOS_EVENT_JOIN, kind, mac, session, version,
+                          &no_bytes, 0, &no_room, 0);
 }
 
 /*
@@ -688,7 +754,7 @@ static inline uint64_t nadrelgos_join(struct nadrelgos_coordinator *coordinator,
 static inline uint64_t nadrelgos_discover(struct nadrelgos_coordinator *coordinator, struct nadrelgos_node *nodes,
                                           uint8_t *out, size_t out_count) {
     const uint8_t no_bytes = 0;
-    return nadrelgos_step(coordinator, nodes, NADRELGOS_NODES, NADRELGOS_EVENT_DISCOVER, 0, 0, 0, &no_bytes, 0, out,
+    return nadrelgos_step(coordinator, nodes, NADRELGOS_NODES, NADRELGOS_EVENT_DISCOVER, 0, 0, 0, 0, &no_bytes, 0, out,
                           out_count);
 }
 
@@ -700,7 +766,7 @@ static inline uint64_t nadrelgos_discover(struct nadrelgos_coordinator *coordina
 static inline uint64_t nadrelgos_turn(struct nadrelgos_coordinator *coordinator, struct nadrelgos_node *nodes,
                                       uint8_t *out, size_t out_count) {
     const uint8_t no_bytes = 0;
-    return nadrelgos_step(coordinator, nodes, NADRELGOS_NODES, NADRELGOS_EVENT_TURN, 0, 0, 0, &no_bytes, 0, out,
+    return nadrelgos_step(coordinator, nodes, NADRELGOS_NODES, NADRELGOS_EVENT_TURN, 0, 0, 0, 0, &no_bytes, 0, out,
                           out_count);
 }
 
@@ -712,8 +778,8 @@ static inline uint64_t nadrelgos_turn(struct nadrelgos_coordinator *coordinator,
 static inline uint64_t nadrelgos_frame(struct nadrelgos_coordinator *coordinator, struct nadrelgos_node *nodes,
                                        const uint8_t *received, size_t received_count, uint8_t *out,
                                        size_t out_count) {
-    return nadrelgos_step(coordinator, nodes, NADRELGOS_NODES, NADRELGOS_EVENT_FRAME, 0, 0, 0, received, received_count,
-                          out, out_count);
+    return nadrelgos_step(coordinator, nodes, NADRELGOS_NODES, NADRELGOS_EVENT_FRAME, 0, 0, 0, 0, received,
+                          received_count, out, out_count);
 }
 
 /*
@@ -725,8 +791,8 @@ static inline uint64_t nadrelgos_frame(struct nadrelgos_coordinator *coordinator
 static inline uint64_t nadrelgos_quiet(struct nadrelgos_coordinator *coordinator, struct nadrelgos_node *nodes) {
     const uint8_t no_bytes = 0;
     uint8_t no_room = 0;
-    return nadrelgos_step(coordinator, nodes, NADRELGOS_NODES, NADRELGOS_EVENT_QUIET, 0, 0, 0, &no_bytes, 0, &no_room,
-                          0);
+    return nadrelgos_step(coordinator, nodes, NADRELGOS_NODES, NADRELGOS_EVENT_QUIET, 0, 0, 0, 0, &no_bytes, 0,
+                          &no_room, 0);
 }
 
 /* The layout that the archives were built with. */
@@ -745,6 +811,7 @@ NADRELGOS_LAID_OUT(offsetof(struct nadrelgos_node, session) == 16);
 NADRELGOS_LAID_OUT(offsetof(struct nadrelgos_node, misses) == 24);
 NADRELGOS_LAID_OUT(offsetof(struct nadrelgos_node, owed) == 25);
 NADRELGOS_LAID_OUT(offsetof(struct nadrelgos_node, index) == 26);
+NADRELGOS_LAID_OUT(offsetof(struct nadrelgos_node, version) == 27);
 
 NADRELGOS_LAID_OUT(sizeof(struct nadrelgos_settings) == 72);
 NADRELGOS_LAID_OUT(offsetof(struct nadrelgos_settings, pool) == 0);
@@ -770,6 +837,7 @@ NADRELGOS_LAID_OUT(offsetof(struct nadrelgos_kept, payload) == 16);
 
 NADRELGOS_LAID_OUT(sizeof(struct nadrelgos_found) == 24);
 NADRELGOS_LAID_OUT(offsetof(struct nadrelgos_found, kind) == 0);
+NADRELGOS_LAID_OUT(offsetof(struct nadrelgos_found, version) == 1);
 NADRELGOS_LAID_OUT(offsetof(struct nadrelgos_found, mac) == 8);
 NADRELGOS_LAID_OUT(offsetof(struct nadrelgos_found, session) == 16);
 

@@ -11,7 +11,9 @@ static struct sender sender_of(const struct board *board) {
 static void say(const struct board *board, struct line *line, uint8_t type, uint8_t method, uint8_t parameter,
                 const uint8_t *payload, size_t count) {
     uint8_t frame[WIRE_MOST];
-    line_put(line, frame, wire_frame(frame, sender_of(board), type, 0, method, parameter, payload, count));
+    size_t length = wire_frame(frame, sender_of(board), type, 0, method, parameter, payload, count);
+    if (board->is_old) wire_make_old(frame, length);
+    line_put(line, frame, length);
 }
 
 void board_say(const struct board *board, struct line *line, uint8_t type, const uint8_t *payload, size_t count) {
@@ -22,6 +24,7 @@ void board_say(const struct board *board, struct line *line, uint8_t type, const
 static void say_ack(const struct board *board, struct line *line, uint8_t turned) {
     uint8_t frame[WIRE_MOST];
     size_t count = wire_ack(frame, sender_of(board), board->mac, board->session);
+    if (board->is_old) wire_make_old(frame, count);
     frame[AT_PAYLOAD] ^= turned;
     line_put(line, frame, count);
 }
@@ -34,6 +37,12 @@ static void take_offer(struct board *board, struct line *line, enum lapse lapse)
         say(board, line, r->type, r->method, r->parameter, r->payload, r->count);
     else
         say_ack(board, line, lapse == DAMAGED ? 0x10 : 0);
+}
+
+/* To a node list: the same. A 1.0 board knows none of another length, and is silent. */
+static void take_list(const struct board *board, struct line *line, const uint8_t *frame) {
+    if (board->is_old && frame[AT_LENGTH] != OLD_LIST) return;
+    board_say(board, line, TYPE_LIST + TYPE_RESPONSE, frame + AT_PAYLOAD, frame[AT_LENGTH]);
 }
 
 /* To another board's request: the furnace acknowledges first, the others give their response at once. */
@@ -67,7 +76,7 @@ void board_answer(struct board *board, struct line *line, const uint8_t *frame) 
     if (type == TYPE_R2R)
         take_offer(board, line, lapse);
     else if (type == TYPE_LIST)
-        board_say(board, line, TYPE_LIST + TYPE_RESPONSE, frame + AT_PAYLOAD, frame[AT_LENGTH]);
+        take_list(board, line, frame);
     else if (type == TYPE_IDENTIFY)
         take_identify(board, line, lapse);
     else if (type >= TYPE_RESPONSE)

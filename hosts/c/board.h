@@ -11,6 +11,7 @@ enum { KIND_THERMOSTAT = 1, KIND_FURNACE = 2, KIND_AIR_HANDLER = 3, KIND_AIR_CON
 struct board {
     enum part part; /* in the scene */
     uint8_t kind;
+    bool is_old;    /* it speaks 1.0 */
     uint64_t mac;
     uint64_t session;
     uint8_t address, subnet; /* 0 where it has none */

@@ -14,8 +14,9 @@ enum { SUBNET = 3 };
 enum { MESSAGE_SECONDS = 10, REPLY_SECONDS = 3, FORGOTTEN_SECONDS = 120 };
 
 static void set_address(const struct bus *bus, struct board *board, uint8_t address) {
+    uint8_t subnet = board->is_old ? OLD_SUBNET : SUBNET;
     board->address = address;
-    board->subnet = address ? SUBNET : 0;
+    board->subnet = address ? subnet : 0;
     board->heard = bus->seconds;
 }
 
@@ -56,11 +57,12 @@ static void assign(struct bus *bus, const uint8_t *frame) {
     }
 }
 
-/* A message to one address: the board that has it answers. */
+/* A message to one address: the board that has it in this subnet answers. */
 static void hand_over(struct bus *bus, const uint8_t *frame) {
     for (unsigned i = 0; i < PARTS; i++) {
         struct board *board = &bus->boards[i];
         if (board->address == 0 || board->address != frame[AT_DESTINATION]) continue;
+        if (frame[AT_SUBNET] != board->subnet && frame[AT_SUBNET] != WIRE_ALL) continue;
         board->messages++;
         board->heard = bus->seconds;
         board_answer(board, &bus->line, frame);
@@ -113,7 +115,7 @@ static void bus_pause(void *line, uint32_t seconds) {
 void bus_start(struct bus *bus) {
     static const struct board boards[PARTS] = {
         {.part = THERMOSTAT, .kind = KIND_THERMOSTAT, .mac = 0x1A2B00000101},
-        {.part = FURNACE, .kind = KIND_FURNACE, .mac = 0x1A2B00000202},
+        {.part = FURNACE, .kind = KIND_FURNACE, .mac = 0x1A2B00000202, .is_old = true},
         {.part = AIR_CONDITIONER, .kind = KIND_AIR_CONDITIONER, .mac = 0x1A2B00000303},
         {.part = AIR_HANDLER, .kind = KIND_AIR_HANDLER, .mac = 0x1A2B00000404, .session = 44},
         {.part = CROSSOVER, .kind = KIND_CROSSOVER, .mac = 0x1A2B00000505, .session = 55},

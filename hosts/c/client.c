@@ -25,6 +25,7 @@ void client_answer(const struct board *board, struct line *line) {
 
 void client_take(struct board *board, struct line *line, const uint8_t *frame) {
     const uint8_t *payload = frame + AT_PAYLOAD;
+    if (board->is_old && payload[ASSIGN_SUBNET] != OLD_SUBNET) return;
     board->address = payload[ASSIGN_ADDRESS];
     board->subnet = payload[ASSIGN_SUBNET];
     board_say(board, line, TYPE_ASSIGN + TYPE_RESPONSE, payload, ASSIGN_LENGTH);

@@ -11,7 +11,8 @@ unsigned client_delay(struct board *board);
 /* The slot delay is over and the line was silent: it answers type, MAC and session. */
 void client_answer(const struct board *board, struct line *line);
 
-/* It takes the address, and answers from there with the same payload. */
+/* It takes the address, and answers from there with the same payload. A 1.0 board takes none in another subnet than its
+   own. */
 void client_take(struct board *board, struct line *line, const uint8_t *frame);
 
 /* It gives its ID: type, MAC and session. */

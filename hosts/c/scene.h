@@ -5,7 +5,7 @@
 #include <stddef.h>
 #include <stdint.h>
 
-/* The boards. The new furnace takes the place of the other. */
+/* The boards. The furnace speaks 1.0; the new one, which takes its place, does not. */
 enum part { THERMOSTAT, FURNACE, AIR_CONDITIONER, AIR_HANDLER, CROSSOVER, NEW_FURNACE, PARTS };
 
 /* A request that a board makes at one of its offers. */

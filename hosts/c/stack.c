@@ -3,8 +3,9 @@
  * stack of its own, an array painted with a pattern, and afterwards the lowest byte that is no longer the pattern tells
  * how deep it went. A call that does nothing is measured first and taken off. x86-64, as the archive is.
  *
- * The steps are those of a full table, forty boards, with the longest payloads that a frame can carry: accepted and
- * refused joins and discoveries, lists, offers, requests by each method with their forwards and returns, misses, drops.
+ * The steps are those of a full table, forty boards, every other one a 1.0 board, with the longest payloads that a
+ * frame can carry: accepted and refused joins and discoveries, lists of both forms, offers, requests by each method with
+ * their forwards and returns, misses, drops.
  * What is wrapped and unwrapped is the longest message in four levels. Shared data is looked up in two full images that
  * have none of the sector, and the longest record is stored in the last slot and written as a response.
  */
@@ -44,8 +45,14 @@ struct call {
     uint8_t event;
     uint8_t kind;
     uint64_t mac;
+    uint8_t version;
     uint64_t answer;
 };
+
+/* Every other board speaks 1.0, the last one too. Its MAC is its position. */
+static uint8_t version_of(uint64_t mac) {
+    return mac % 2 ? NADRELGOS_VERSION_LATER : NADRELGOS_VERSION_1_0;
+}
 
 /* By itself, so that the room for what it finds is not counted with the other calls. */
 __attribute__((noinline)) static void find(void) {
@@ -105,7 +112,7 @@ static void make(struct call *call) {
     case ANSWER: answer_longest(); break;
     default:
         call->answer = nadrelgos_step(&coordinator, nodes, NADRELGOS_NODES, call->event, call->kind, call->mac, 1,
-                                      received, received_count, out, sizeof out);
+                                      call->version, received, received_count, out, sizeof out);
     }
 }
 
@@ -134,7 +141,7 @@ static size_t nothing, deepest[CALLS];
 static unsigned calls, refused;
 
 static uint64_t measure(uint8_t event, uint8_t kind, uint64_t mac) {
-    struct call call = {event, kind, mac, 0};
+    struct call call = {event, kind, mac, version_of(mac), 0};
     size_t bytes = depth(&call) - nothing;
     if (bytes > deepest[event]) deepest[event] = bytes;
     calls++;
@@ -152,6 +159,7 @@ static struct sender sender_at(unsigned p) {
     }
     sender.address = coordinator.setup.pool[p - 1];
     sender.kind = nodes[p - 1].kind;
+    if (version_of(p) == NADRELGOS_VERSION_1_0) sender.subnet = OLD_SUBNET;
     return sender;
 }
 
@@ -195,6 +203,7 @@ static void join_by_discovery(unsigned p, bool has_address) {
     wire_put_word(who + 10, 1);
     if (nadrelgos_board(measure(NADRELGOS_EVENT_DISCOVER, 0, 0)) != p) astray = true;
     received_count = wire_frame(received, nobody, TYPE_DISCOVER + TYPE_RESPONSE, 0, 0, 0, who, sizeof who);
+    if (version_of(p) == NADRELGOS_VERSION_1_0) wire_make_old(received, received_count);
     measure(NADRELGOS_EVENT_FRAME, 0, 0);
     measure(NADRELGOS_EVENT_TURN, 0, 0);
     uint64_t answer;
@@ -207,7 +216,7 @@ static void join_by_discovery(unsigned p, bool has_address) {
         measure(NADRELGOS_EVENT_TURN, 0, 0);
         answer = says(p, TYPE_ASSIGN + TYPE_RESPONSE, 0, 0, out + AT_PAYLOAD, out[AT_LENGTH]);
     }
-    if (nadrelgos_joined(answer) != p) astray = true;
+    if (nadrelgos_joined(answer) != p || nodes[p - 1].version != version_of(p)) astray = true;
 }
 
 /* A request with the longest payload, by each method; the board that it is for answers, or is silent. */
@@ -246,7 +255,7 @@ static void share(void) {
 }
 
 int main(void) {
-    struct call empty = {NOTHING, 0, 0, 0};
+    struct call empty = {.event = NOTHING};
     nothing = depth(&empty);
 
     for (unsigned i = 0; i < sizeof pool; i++) pool[i] = (uint8_t)(FIRST_ADDRESS + i);

@@ -22,8 +22,9 @@ void tell_table(const struct panel *panel) {
     for (unsigned p = 1; p <= panel->coordinator.setup.k; p++) {
         const struct nadrelgos_node *node = &panel->nodes[p - 1];
         if (node->kind == 0) continue;
-        printf("                %u  address %u  %s, index %u, session %016llx, misses %u\n", p, words_address(panel, p),
-               words_kind(node->kind), node->index, (unsigned long long)node->session, node->misses);
+        printf("                %u  address %u  %s, version %s, index %u, session %016llx, misses %u\n", p,
+               words_address(panel, p), words_kind(node->kind), words_version(node->version), node->index,
+               (unsigned long long)node->session, node->misses);
     }
 }
 

@@ -29,6 +29,11 @@ size_t wire_frame(uint8_t *frame, struct sender from, uint8_t type, uint8_t pack
     return wire_seal(frame, AT_PAYLOAD + count);
 }
 
+void wire_make_old(uint8_t *frame, size_t count) {
+    frame[AT_PACKET] |= OLD_BIT;
+    wire_seal(frame, count - 2);
+}
+
 size_t wire_ack(uint8_t *frame, struct sender from, uint64_t mac, uint64_t session) {
     uint8_t payload[R2R_LENGTH] = {CODE_ACK};
     wire_put_word(payload + 1, mac);

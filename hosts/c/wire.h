@@ -23,6 +23,10 @@ enum { TYPE_R2R = 0x00, TYPE_CONTROL = 0x03, TYPE_DISPLAY = 0x04, TYPE_DIAGNOSTI
 /* The first byte of an R2R frame's payload, the length of that, and its packet number (API Reference, 6.1 and 4.3). */
 enum { CODE_OFFER = 0x00, CODE_ACK = 0x06, R2R_LENGTH = 17, DATAFLOW = 0x80 };
 
+/* Boards that speak 1.0: their subnet, the one length of a node list that they take, and the bit of packet numbers by
+   which they say so (Networking Specification, 11.11 and 8.1.2.4; API Reference, 4.3). */
+enum { OLD_SUBNET = 2, OLD_LIST = 16, OLD_BIT = 0x20 };
+
 /* The payloads by which a board gets its address (API Reference, tables 57 to 62): Node Discovery's filter; the
    responses to it and to Get Node ID; Set Address, which is answered by the same. */
 enum { DISCOVER_LENGTH = 1, DISCOVER_FILTER = 0, FOUND_LENGTH = 18, ID_LENGTH = 17 };
@@ -40,6 +44,9 @@ size_t wire_frame(uint8_t *frame, struct sender from, uint8_t type, uint8_t pack
 
 /* Writes the check bytes behind the bytes of a frame, and gives its length. */
 size_t wire_seal(uint8_t *frame, size_t end);
+
+/* Makes a frame that of a 1.0 board: sets the bit in its packet number, and the check bytes anew. */
+void wire_make_old(uint8_t *frame, size_t count);
 
 /* Writes an ACK to the panel: the code, the sender's MAC and its session. */
 size_t wire_ack(uint8_t *frame, struct sender from, uint64_t mac, uint64_t session);

@@ -23,12 +23,16 @@ const char *words_kind(unsigned kind) {
     }
 }
 
+const char *words_version(unsigned version) {
+    return version == NADRELGOS_VERSION_1_0 ? "1.0" : "2.0";
+}
+
 const char *words_refusal(unsigned refusal) {
     static const char *const names[] = {
         "accepted", "short", "over-long", "length mismatch", "bad checksum", "not for us", "not awaited",
         "unexpected type", "bad echo", "bad method", "payload too long", "no room", "bad type", "bad MAC", "busy",
         "held", "full", "retired", "awaiting reply", "nobody listed", "not waiting", "bad pool", "state unfit",
-        "not discovering", "other subnet", [NADRELGOS_BAD_LENGTH] = "bad length", [NADRELGOS_NO_SLOT] = "no slot",
+        "not discovering", "other subnet", "too many types", "bad length", "no slot",
         [NADRELGOS_BAD_INNER] = "bad inner", [NADRELGOS_TOO_DEEP] = "too deep",
         [NADRELGOS_BAD_TEXT_LENGTH] = "bad text length", [NADRELGOS_BAD_TEXT] = "bad text",
     };
@@ -62,11 +66,15 @@ void words_sent(struct words *words, const struct panel *panel, uint64_t wait) {
     static const char *const sent[] = {"", "offer", "list", "request forwarded", "response returned"};
     unsigned position = nadrelgos_board(wait), exchange = nadrelgos_exchange(wait);
     unsigned address = words_address(panel, position), count = (unsigned)nadrelgos_written(wait);
+    const uint8_t *payload = panel->out + AT_PAYLOAD;
     switch (exchange) {
     case NADRELGOS_SEARCH: say(words, "Node Discovery, position %u is free, %u bytes", position, count); break;
-    case NADRELGOS_IDENTIFY: say(words, "Get Node ID to address %u, %u bytes", address, count); break;
+    case NADRELGOS_IDENTIFY:
+        say(words, "Get Node ID to address %u in subnet %u, %u bytes", address, panel->out[AT_SUBNET], count);
+        break;
     case NADRELGOS_ASSIGN:
-        say(words, "Set Address %u to the %s, %u bytes", address, words_kind(panel->coordinator.found.kind), count);
+        say(words, "Set Address %u in subnet %u to the %s, %u bytes", address, payload[ASSIGN_SUBNET],
+            words_kind(panel->coordinator.found.kind), count);
         break;
     default: say(words, "%s to the %s, %u bytes", sent[exchange], board_name(panel, position), count); break;
     }
@@ -84,7 +92,8 @@ static void say_joining(struct words *words, const struct panel *panel, uint64_t
     else if (nadrelgos_answer(answer) == NADRELGOS_TRANSMIT)
         say(words, "the %s has address %u and cannot join there; ACK sent", name, address);
     else if (panel->coordinator.stand.stage == IDENTIFY_DUE)
-        say(words, "the %s has no address; position %u for it", name, (unsigned)panel->coordinator.stand.board);
+        say(words, "the %s, version %s, has no address; position %u for it", name,
+            words_version(panel->coordinator.found.version), (unsigned)panel->coordinator.stand.board);
     else
         say(words, "the %s has no address, and cannot join", name);
 }
@@ -175,11 +184,12 @@ static struct digits digits_of(const uint8_t *bytes, size_t count) {
     return digits;
 }
 
-/* Or it holds a message inside messages. Of one that is refused nothing is shown, the outer levels neither. */
+/* Or it holds a message inside messages. Of one that is refused nothing is shown, the outer levels neither. Its subnet
+   is its sender's, and taken by the step. */
 static void say_inside(struct words *words, const struct panel *panel) {
     const uint8_t *received = panel->received;
     size_t count = WIRE_AROUND + (size_t)received[AT_LENGTH];
-    struct nadrelgos_unwrapping read = nadrelgos_unwrap(panel->coordinator.setup.subnet, received, count);
+    struct nadrelgos_unwrapping read = nadrelgos_unwrap(received[AT_SUBNET], received, count);
     if (read.refusal)
         say(words, "for the host: no message that can be unwrapped, %s", words_refusal(read.refusal));
     else

@@ -11,8 +11,9 @@ struct words {
     char text[160];
 };
 
-/* A node type, a refusal by its number, and an exchange by its number. */
+/* A node type, a version, a refusal by its number, and an exchange by its number. */
 const char *words_kind(unsigned kind);
+const char *words_version(unsigned version);
 const char *words_refusal(unsigned refusal);
 const char *words_exchange(unsigned exchange);
 

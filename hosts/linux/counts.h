@@ -5,7 +5,7 @@
 #include <stdint.h>
 
 /* The numbers by which steps are refused are below this one. */
-enum { REFUSALS = 25 };
+enum { REFUSALS = 26 };
 
 struct counts {
     unsigned long offers, carried, misses, drops, joins;

@@ -38,6 +38,7 @@ static void forget(struct cutter *cutter, size_t from) {
     cutter->count -= from;
     cutter->cut = 0;
     cutter->at = 0;
+    memset(cutter->sought, 0, sizeof cutter->sought); /* with more bytes another frame may be the first */
     cutter->any = cutter->any && cutter->goes_on;
     cutter->goes_on = false;
 }
@@ -53,15 +54,38 @@ static size_t finish(struct cutter *cutter, uint8_t *frame, size_t room) {
     return handed;
 }
 
-size_t cutter_next(struct cutter *cutter, uint8_t *frame, size_t room) {
+/* The first frame of a subnet from `at` on. What was found holds until that place is passed, and that there is none for
+   the whole stretch: so each start is tried once, however many frames there are. */
+static const struct sought *seek(struct cutter *cutter, struct sought *sought, uint8_t subnet) {
+    bool is_passed = sought->length > 0 && sought->start < cutter->at;
+    if (sought->is_known && !is_passed) return sought;
     size_t left = cutter->cut - cutter->at;
-    const uint8_t *bytes = cutter->bytes + cutter->at;
-    struct nadrelgos_finding finding = nadrelgos_find(cutter->subnet, bytes, left, left);
-    if (finding.number != NADRELGOS_FOUND) return finish(cutter, frame, room);
-    size_t count = least(finding.length, room);
-    memcpy(frame, bytes + finding.start, count);
-    cutter->lost += finding.start;
-    cutter->at += finding.start + finding.length;
+    struct nadrelgos_finding finding = nadrelgos_find(subnet, cutter->bytes + cutter->at, left, left);
+    *sought = (struct sought){true, cutter->at + finding.start, finding.length};
+    return sought;
+}
+
+/*
+ * The first frame of either subnet from `at` on: the one that begins earlier. A finder that took both would try the
+ * starts in their order and stop at the same one; so nothing that looks like a frame of one subnet, in noise or in the
+ * other's payload, costs a frame of the other that began before it. Two that begin at one place are one frame, of 0.
+ * Whether the panel takes a frame of the 1.0 boards' subnet now is for its step to say, which knows who is awaited.
+ */
+static const struct sought *seek_either(struct cutter *cutter) {
+    const struct sought *ours = seek(cutter, &cutter->sought[CUTTER_OURS], cutter->subnet);
+    if (cutter->subnet == NADRELGOS_OLD_SUBNET) return ours;
+    const struct sought *old = seek(cutter, &cutter->sought[CUTTER_OLD], NADRELGOS_OLD_SUBNET);
+    bool is_old_first = old->length > 0 && (ours->length == 0 || old->start < ours->start);
+    return is_old_first ? old : ours;
+}
+
+size_t cutter_next(struct cutter *cutter, uint8_t *frame, size_t room) {
+    const struct sought *found = seek_either(cutter);
+    if (found->length == 0) return finish(cutter, frame, room);
+    size_t count = least(found->length, room);
+    memcpy(frame, cutter->bytes + found->start, count);
+    cutter->lost += found->start - cutter->at;
+    cutter->at = found->start + found->length;
     cutter->any = true;
     return count;
 }

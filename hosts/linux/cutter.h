@@ -1,6 +1,7 @@
 /*
  * Frames out of the line's bytes. A silence ends a stretch of them, and the proved finder (nadrelgos_find) looks
  * through the stretch: noise before, between and after frames costs no frame, and neither do frames of another subnet.
+ * Our boards have two subnets: ours, and that of those that speak 1.0.
  */
 #ifndef CUTTER_H
 #define CUTTER_H
@@ -13,8 +14,18 @@
    for another. */
 enum { CUTTER_MOST = 4096, CUTTER_ROOM = 2 * CUTTER_MOST };
 
+/* What a search of the stretch for one subnet has come to. */
+struct sought {
+    bool is_known;        /* it was made */
+    size_t start, length; /* the first frame from there on; a length of 0: there is none */
+};
+
+/* The subnets that are looked for: ours, and that of 1.0 boards. */
+enum { CUTTER_OURS, CUTTER_OLD, CUTTER_SUBNETS };
+
 struct cutter {
-    uint8_t subnet; /* ours: frames of this one and of 0 are found */
+    uint8_t subnet; /* ours: frames of this one, of the 1.0 boards' and of 0 are found */
+    struct sought sought[CUTTER_SUBNETS];
     uint8_t bytes[CUTTER_ROOM];
     size_t count;  /* how many bytes there are */
     size_t cut;    /* the first so many are a stretch to be looked through; 0 where none is */

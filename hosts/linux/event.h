@@ -11,7 +11,7 @@ enum {
     HAS_CALL = 1,      /* call */
     HAS_EXCHANGE = 2,  /* exchange, position, address */
     HAS_PLACE = 4,     /* position, address */
-    HAS_BOARD = 8,     /* kind, mac, session */
+    HAS_BOARD = 8,     /* kind, version, mac, session */
     HAS_MISSES = 16,   /* misses */
     HAS_REFUSAL = 32,  /* refusal */
     HAS_ANSWER = 64,   /* answer, due */
@@ -34,7 +34,7 @@ struct event {
     bool is_common;    /* of the kind that comes with every offer: left out where there is little room */
     const char *words; /* in words */
     const char *call, *answer, *due, *text;
-    unsigned exchange, position, address, kind, misses, refusal, message;
+    unsigned exchange, position, address, kind, version, misses, refusal, message;
     uint64_t mac, session;
     struct bytes frame, ack;
     size_t count;

@@ -47,6 +47,7 @@ static void put_place(const struct event *event) {
 static void put_board(const struct event *event) {
     put_number("type", event->kind);
     put_string("name", words_kind(event->kind));
+    put_number("version", event->version);
     put_word("mac", event->mac);
     put_word("session", event->session);
 }

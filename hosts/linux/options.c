@@ -21,7 +21,7 @@ static const char help[] =
     "  --rs485           the kernel's driver switches the adapter between sending and listening\n"
     "  --silence MS      so many milliseconds of silence end what was received, 1 to 1000 (30)\n"
     "  --look SECONDS    how often boards without an address are looked for, 1 to 120 (20)\n"
-    "  --subnet NUMBER   our subnet, of the frames that are sent and taken, 0 to 255 (3)\n"
+    "  --subnet NUMBER   our subnet, of frames to and from boards later than 1.0, 0 to 255 (3)\n"
     "  --mac HEX         the panel's own MAC, 1 to ffffffffffffff (1a2b00000001)\n"
     "  --lines           a line for each event, on a terminal too\n"
     "  --json            a line of JSON for each event\n"

@@ -78,15 +78,15 @@ static void put_board(struct page *page, const struct screen *screen, unsigned p
     const struct nadrelgos_node *node = &screen->panel->nodes[position - 1];
     char kind[32];
     snprintf(kind, sizeof kind, "%s (%u)", words_kind(node->kind), node->kind);
-    put(page, "%3u %4u  %-20s %5u  %016llx  %-6s  %-4s  %s", position, words_address(screen->panel, position), kind,
-        node->index, (unsigned long long)node->session, marks[node->misses & 3], node->owed ? "owed" : "-",
-        ago(screen, screen->heard[position - 1]));
+    put(page, "%3u %4u  %-20s %s %5u %016llx %-6s %-4s %s", position, words_address(screen->panel, position), kind,
+        words_version(node->version), node->index, (unsigned long long)node->session, marks[node->misses & 3],
+        node->owed ? "owed" : "-", ago(screen, screen->heard[position - 1]));
 }
 
 static void put_table(struct page *page, const struct screen *screen) {
     const struct panel *panel = screen->panel;
     unsigned listed = 0;
-    put(page, "pos addr  type                 index  session           misses  list  heard");
+    put(page, "pos addr  type                 ver index session          misses list heard");
     for (unsigned p = 1; p <= panel->coordinator.setup.k; p++) {
         if (panel->nodes[p - 1].kind == 0) continue;
         put_board(page, screen, p);

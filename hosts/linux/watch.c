@@ -55,6 +55,7 @@ static void set_wait(struct event *event, uint64_t wait) {
 
 static void set_board(struct event *event, const struct nadrelgos_node *node) {
     event->kind = node->kind;
+    event->version = node->version;
     event->mac = node->mac;
     event->session = node->session;
 }
@@ -80,8 +81,9 @@ static void show_refused(const char *call, uint64_t answer, struct bytes frame) 
 /* A board is on the list now, or off it. */
 static void show_board(const char *name, const char *list, unsigned position, const struct nadrelgos_node *node) {
     char words[128];
-    snprintf(words, sizeof words, "%s: %s, position %u, address %u, MAC %014llx", list, words_kind(node->kind),
-             position, words_address(watch.panel, position), (unsigned long long)node->mac);
+    snprintf(words, sizeof words, "%s: %s, position %u, address %u, MAC %014llx, version %s", list,
+             words_kind(node->kind), position, words_address(watch.panel, position), (unsigned long long)node->mac,
+             words_version(node->version));
     struct event event = begin(name, HAS_PLACE | HAS_BOARD, words);
     set_place(&event, position);
     set_board(&event, node);

@@ -2,20 +2,24 @@
 //! and disturbances, each as it was answered.
 
 mod cases;
+mod condensed;
 mod discoveries;
 mod indexes;
+mod old_subnet;
 mod required;
+mod required_versions;
 mod retypings;
 mod subnets;
-
-pub use required::POOL_SIZES;
+mod versions;
 
 use crate::counts::Counts;
 use crate::line::{Kind, Line};
 use crate::panel::Panel;
+use crate::rows::Rows;
 use crate::state::Phase;
 use cases::head;
 use indexes::Indexes;
+use required_versions::VERSION_BYTES;
 use retypings::Retypings;
 use subnets::Subnets;
 
@@ -31,6 +35,7 @@ pub struct Coverage {
     retypings: Retypings,
     indexes: Indexes,
     subnets: Subnets,
+    version_bytes: Rows,
     lines: u64,
     steps: u64,
     bytes: u64,
@@ -69,8 +74,32 @@ impl Coverage {
         for case in self.subnets.note(before, &line.text, &head, after) {
             self.cases.count(case);
         }
+        self.note_versions(before, &line.text, answer, &head, after);
         self.note_returns(before, &line.text, &head, after);
         self.note_room(before, &head);
+    }
+
+    /// What a line is of boards that speak 1.0 (C-15).
+    fn note_versions(
+        &mut self,
+        before: &Panel,
+        line: &str,
+        answer: &str,
+        head: &str,
+        after: &Panel,
+    ) {
+        let parts = [
+            versions::cases(before, line, answer, head, after),
+            condensed::cases(before, line, head, after),
+            old_subnet::cases(before, line, head, after),
+        ];
+        for case in parts.concat() {
+            self.cases.count(case);
+        }
+        let byte = line.split(' ').nth(4).and_then(|word| word.parse().ok());
+        if let ("rest joined", Some(byte)) = (head, byte) {
+            self.version_bytes.count(VERSION_BYTES, byte);
+        }
     }
 
     /// Sees a frame of a discovery taken after one was refused for its room.
@@ -113,6 +142,7 @@ impl Coverage {
         self.refusals.add(&other.refusals);
         self.cases.add(&other.cases);
         self.disturbances.add(&other.disturbances);
+        self.version_bytes.add(&other.version_bytes);
         self.lines += other.lines;
         self.steps += other.steps;
         self.bytes += other.bytes;
@@ -137,6 +167,8 @@ impl Coverage {
         let mut missing = self.answers.missing(required::answers());
         missing.extend(self.refusals.missing(required::refusals()));
         missing.extend(self.cases.missing(required::cases()));
+        missing.extend(self.cases.missing(required_versions::cases()));
+        missing.extend(self.version_bytes.missing(&required_versions::rows()));
         missing.extend(self.disturbances.missing(required::disturbances()));
         missing
     }
@@ -152,6 +184,7 @@ impl Coverage {
             text.push_str(&format!("{:8}  {name}\n", self.refusals.of(&name)));
         }
         text.push_str(&self.cases.section("cases"));
+        text.push_str(&self.version_bytes.section("versions", &required_versions::rows()));
         text.push_str(&self.disturbances.section("disturbances"));
         text.push_str("\ncannot be met\n");
         for (name, why) in required::IMPOSSIBLE {

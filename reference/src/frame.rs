@@ -44,12 +44,17 @@ pub fn takes(ours: u8, subnet: u8) -> bool {
 /// The reader on our subnet: refusals 1 to 4 in that order, then 24, else the
 /// fields. The payload is a part of `bytes` (01, "The frame"; C-14).
 pub fn read(bytes: &[u8], ours: u8) -> Result<Frame<'_>, Refusal> {
+    read_if(bytes, |subnet| takes(ours, subnet))
+}
+
+/// The same where 24 is for the subnets that are not taken (C-15).
+pub fn read_if(bytes: &[u8], taken: impl Fn(u8) -> bool) -> Result<Frame<'_>, Refusal> {
     refuse_if(bytes.len() < OVERHEAD, Refusal::Short)?;
     let length = usize::from(bytes[9]);
     refuse_if(length > MAX_PAYLOAD, Refusal::OverLong)?;
     refuse_if(bytes.len() != OVERHEAD + length, Refusal::LengthMismatch)?;
     refuse_if(!checksum::is_good(bytes), Refusal::BadChecksum)?;
-    refuse_if(!takes(ours, bytes[2]), Refusal::OtherSubnet)?;
+    refuse_if(!taken(bytes[2]), Refusal::OtherSubnet)?;
     Ok(Frame {
         destination: bytes[0],
         source: bytes[1],

@@ -4,6 +4,7 @@
 mod boards;
 mod discoveries;
 mod faults;
+mod houses;
 mod joins;
 mod mishaps;
 mod setups;
@@ -12,25 +13,35 @@ mod words;
 
 pub use words::doubtful;
 
-use crate::coverage::{Coverage, POOL_SIZES};
+use crate::coverage::Coverage;
 use crate::language::hex;
 use crate::line::{Kind, Line};
 use crate::panel::Panel;
 use crate::prng::Prng;
 use crate::script::Player;
 use crate::state::{Exchange, Phase};
+use crate::version::{LATER, OLD};
 use boards::Habit;
+use houses::{House, LIMIT_POOL};
 use std::collections::BTreeMap;
 
 /// Lines played before the first setup.
 const OPENING: usize = 24;
-/// Of a hundred lines, so many for each of the pool sizes.
-const SHARES: [usize; 7] = [11, 25, 6, 15, 9, 19, 15];
+/// The pools of a script, by number of addresses, and of a hundred lines so many for
+/// each of them. Large and small ones come by turns, so that a setup has old records
+/// to clear. The largest takes turns with the next one, because it is long until
+/// either is full.
+const POOLS: [(usize, usize); 7] =
+    [(3, 10), (LARGEST, 30), (1, 6), (15, 13), (2, 8), (LIMIT_POOL, 22), (8, 11)];
+const LARGEST: usize = 40;
 /// Of a hundred joins and drops, so many have a table behind them.
 const SHOWN: usize = 80;
 /// Of a hundred waits in which the other system was heard last, so many end
 /// with quiet at once (C-14).
 const NOTHING_ELSE: usize = 25;
+
+/// So many version bytes lie between the first of one seed and of the next (C-15).
+const VERSION_BYTES: u64 = 13;
 
 /// How much goes wrong.
 #[derive(Clone, Copy, PartialEq, Eq)]
@@ -45,6 +56,11 @@ pub struct Generator<'a> {
     player: Player,
     habits: BTreeMap<u64, Habit>,
     away: Vec<(u8, u64)>,
+    house: House,
+    /// The number of the house.
+    houses: u64,
+    /// The version byte of the next join of a later board.
+    version_byte: u8,
     mode: Mode,
     late: Option<Vec<u8>>,
     /// The last line let a board come or go.
@@ -63,6 +79,9 @@ pub fn generate(seed: u64, count: usize, sink: &mut dyn FnMut(&str)) -> Coverage
         player: Player::default(),
         habits: BTreeMap::new(),
         away: Vec::new(),
+        house: House::plain(),
+        houses: seed,
+        version_byte: first_version_byte(seed),
         mode: Mode::Calm,
         late: None,
         moved: false,
@@ -73,6 +92,14 @@ pub fn generate(seed: u64, count: usize, sink: &mut dyn FnMut(&str)) -> Coverage
     };
     generator.run(count);
     generator.coverage
+}
+
+/// Never that of a 1.0 board.
+fn first_version_byte(seed: u64) -> u8 {
+    match seed.wrapping_mul(VERSION_BYTES) as u8 {
+        OLD => LATER,
+        byte => byte,
+    }
 }
 
 /// The same as one text, each line ended.
@@ -91,8 +118,10 @@ impl Generator<'_> {
         self.opening(opening);
         let rest = count - opening;
         let mut given = 0;
-        for (k, share) in POOL_SIZES.into_iter().zip(SHARES) {
-            let last = k == POOL_SIZES[POOL_SIZES.len() - 1];
+        let less = self.rng.below(2);
+        for (place, (k, share)) in POOLS.into_iter().enumerate() {
+            let last = place + 1 == POOLS.len();
+            let k = if k == LARGEST { k - less } else { k };
             let lines = if last { rest - given } else { rest * share / 100 };
             given += lines;
             self.segment(k, lines);
@@ -108,8 +137,11 @@ impl Generator<'_> {
         let before = self.player.panel.clone();
         let answer = self.player.play(line.text.as_bytes());
         self.coverage.note(&before, &line, answer.as_deref(), &self.player.panel);
-        self.moved =
-            answer.map_or(false, |text| text.contains("joined") || text.contains("dropped"));
+        let answer = answer.unwrap_or_default();
+        self.moved = answer.contains("joined") || answer.contains("dropped");
+        if answer.starts_with("rest joined") {
+            self.next_version_byte();
+        }
         self.overheard = line.kind == Kind::OtherSubnet;
         self.remember_dropped(&before);
         (self.sink)(&line.text);
@@ -135,7 +167,7 @@ impl Generator<'_> {
         let fixed = [
             "# before a setup",
             "table",
-            "join 5 7 9",
+            "join 5 7 9 2",
             "discover 300",
             "turn 300",
             "quiet",
@@ -158,6 +190,8 @@ impl Generator<'_> {
     /// One fresh start and what follows it.
     fn segment(&mut self, k: usize, lines: usize) {
         self.left = lines;
+        self.houses = self.houses.wrapping_add(1);
+        self.house = House::numbered(self.houses, k, &mut self.rng);
         if self.rng.chance(50) {
             let line = self.refused_setup();
             self.emit(line);

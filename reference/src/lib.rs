@@ -6,11 +6,12 @@
 //! the script language; "C-11" is the change request for the AutoNet exchange,
 //! "C-12" the one by which a board that joins again may have another type,
 //! "C-13" the one by which each record keeps its board's index, "C-14" the one by
-//! which frames of another subnet are not read, "C-16" the one for the shared data
-//! of a replaced control, "C-21" the one for messages inside messages, "C-22" the
-//! one for the texts and faults that a display shows and "C-23" the one that retired
-//! number 17, as they were settled. The choices made where these are silent or can
-//! be read in two ways stand in DECISIONS.md.
+//! which frames of another subnet are not read, "C-15" the one for boards that speak
+//! ClimateTalk 1.0, "C-16" the one for the shared data of a replaced control, "C-21"
+//! the one for messages inside messages, "C-22" the one for the texts and faults that
+//! a display shows and "C-23" the one that retired number 17, as they were settled.
+//! The choices made where these are silent or can be read in two ways stand in
+//! DECISIONS.md.
 
 #![forbid(unsafe_code)]
 
@@ -42,3 +43,4 @@ pub mod rows;
 pub mod script;
 pub mod shared;
 pub mod state;
+pub mod version;

@@ -1,9 +1,12 @@
 //! The coordinator's steps: join, discover, turn, frame and quiet, and the
 //! setup that makes a fresh start (01, "Steps"; C-11). What a discovery does in
-//! them, and how a board comes and goes, stand in files of their own.
+//! them, how a board comes and goes, the node list and the subnets stand in files
+//! of their own.
 
 mod discovery;
 mod listing;
+mod node_list;
+mod subnets;
 
 pub use discovery::{
     ADDRESS_LENGTH, DISCOVERED_LENGTH, IDENTIFIED_LENGTH, TYPE_ADDRESS, TYPE_ADDRESSED,
@@ -14,6 +17,7 @@ use crate::frame::{self, Frame, COORDINATOR, COORDINATOR_TYPE};
 use crate::refusal::{refuse_if, Refusal};
 use crate::routing;
 use crate::state::{self, Coordinator, Exchange, Identity, Message, Phase, Record, RECORDS};
+use crate::version;
 
 /// 003, 6.1: message type of the R2R and of its ACK.
 pub const TYPE_R2R: u8 = 0x00;
@@ -115,26 +119,38 @@ impl Panel {
         Ok(settings.pool.len())
     }
 
-    /// Join: 22, then 12 to 16.
-    pub fn join(&mut self, node_type: u8, mac: u64, session: u64) -> Answer {
+    /// Join: 22, 12 to 15, 25, 16. Of the version byte 1 is a 1.0 board (C-15).
+    pub fn join(&mut self, node_type: u8, mac: u64, session: u64, version: u8) -> Answer {
         self.check_fit()?;
-        let board = Identity { node_type, mac, session };
+        let board = Identity { node_type, mac, session, version: version::of_join(version) };
         let position = self.place_for(&board)?;
         self.admit(position, &board);
         Ok(Outcome { joined: position, ..Outcome::rest() })
     }
 
-    /// 12 to 16: the position that a join of this board takes, its own where
-    /// the MAC is listed, else the lowest free one.
+    /// 12 to 15, 25 and 16: the position that a join of this board takes, its own
+    /// where the MAC is listed, else the lowest free one.
     fn place_for(&self, board: &Identity) -> Result<usize, Refusal> {
         refuse_if(!state::type_fits(board.node_type), Refusal::BadType)?;
         refuse_if(!state::mac_fits(board.mac), Refusal::BadMac)?;
         refuse_if(self.busy(), Refusal::Busy)?;
         refuse_if(self.coordinator.held, Refusal::Held)?;
+        refuse_if(self.too_many_types_with(board), Refusal::TooManyTypes)?;
         match self.position_of(board.mac) {
             Some(position) => Ok(position),
             None => self.free_position(),
         }
+    }
+
+    /// 25: whether the listed boards with this one, in the place of its own record
+    /// if it has one, are a 1.0 board and more than 15 types. Whether there is room
+    /// for it is not asked.
+    fn too_many_types_with(&self, board: &Identity) -> bool {
+        let others: Vec<Record> =
+            self.records.iter().copied().filter(|record| record.mac != board.mac).collect();
+        let mut boards = state::boards(&others);
+        boards.push((board.node_type, board.version));
+        version::too_many_types(&boards)
     }
 
     /// 16: the lowest free position, freed ones included. No listed board has
@@ -212,7 +228,7 @@ impl Panel {
         board: usize,
         out: &mut [u8],
     ) -> Result<(usize, Exchange, usize), Refusal> {
-        let list = self.node_list();
+        let list = self.list_to(board);
         let written = frame::write(&self.own(board, TYPE_LIST, PACKET_PLAIN, &list), out)?;
         self.record_mut(board).owed = false;
         Ok((board, Exchange::List, written))
@@ -237,11 +253,11 @@ impl Panel {
         after.or_else(|| self.listed().next()).unwrap_or(0)
     }
 
-    /// Frame: 22, 1 to 4, 24, 5, 23, 6 to 9, then 11. It is read on the subnet
-    /// of the setup (C-14).
+    /// Frame: 22, 1 to 4, 24, 5, 23, 6 to 9, then 11. It is read on the subnets
+    /// that are now taken (C-14, C-15).
     pub fn frame(&mut self, bytes: &[u8], out: &mut [u8]) -> Answer {
         self.check_fit()?;
-        let frame = frame::read(bytes, self.coordinator.subnet)?;
+        let frame = self.read(bytes)?;
         refuse_if(frame.destination != COORDINATOR, Refusal::NotForUs)?;
         refuse_if(self.out_of_place(frame.message_type), Refusal::NotDiscovering)?;
         let (board, exchange) = self.awaited(frame.source)?;
@@ -251,7 +267,7 @@ impl Panel {
         let accepted = self.judge(board, exchange, &frame)?;
         let written = match accepted {
             Accepted::Ack { .. } => 0,
-            _ => self.write_ack(board, out)?,
+            _ => self.write_ack(board, self.subnet_at(board), out)?,
         };
         self.record_mut(board).misses = 0;
         Ok(Outcome::new(self.accept(board, exchange, accepted, &frame), written))
@@ -283,7 +299,7 @@ impl Panel {
                 Ok(Accepted::Request)
             }
             (Exchange::List, TYPE_ECHO) => {
-                refuse_if(frame.payload != self.node_list(), Refusal::BadEcho)?;
+                refuse_if(frame.payload != self.list_to(board), Refusal::BadEcho)?;
                 Ok(Accepted::Echo)
             }
             (Exchange::Forward { requester, request_type, .. }, kind)
@@ -302,10 +318,11 @@ impl Panel {
         Ok(Accepted::Ack { session })
     }
 
-    /// The ACK due to the sender of a request or response.
-    fn write_ack(&self, board: usize, out: &mut [u8]) -> Result<usize, Refusal> {
+    /// The ACK due to the sender of a request or response, on his subnet.
+    fn write_ack(&self, board: usize, subnet: u8, out: &mut [u8]) -> Result<usize, Refusal> {
         let payload = self.r2r_payload(CODE_ACK);
-        frame::write(&self.own(board, TYPE_R2R, PACKET_DATAFLOW, &payload), out)
+        let ack = Frame { subnet, ..self.own(board, TYPE_R2R, PACKET_DATAFLOW, &payload) };
+        frame::write(&ack, out)
     }
 
     /// Each accepted frame ends its wait, except an ACK after a forward.
@@ -421,13 +438,22 @@ impl Panel {
         self.listed().find(|&position| self.record(position).mac == mac)
     }
 
-    /// Node list payload: the internal type, then the types (0 if free) up to
-    /// the highest listed position (01, house).
+    /// The payload of a node list to this board, in the form that it reads.
+    pub fn list_to(&self, board: usize) -> Vec<u8> {
+        match self.record(board).version {
+            version::OLD => self.condensed_list(),
+            _ => self.node_list(),
+        }
+    }
+
+    /// The full list, to boards that are not 1.0 boards.
     pub fn node_list(&self) -> Vec<u8> {
-        let highest = self.listed().last().unwrap_or(0);
-        let mut list = vec![self.coordinator.internal];
-        list.extend_from_slice(&self.types()[..highest]);
-        list
+        node_list::full(&self.records, self.coordinator.internal)
+    }
+
+    /// The list to 1.0 boards.
+    pub fn condensed_list(&self) -> Vec<u8> {
+        node_list::condensed(&self.records, self.coordinator.internal)
     }
 
     fn owe_to_all(&mut self) {
@@ -445,13 +471,13 @@ impl Panel {
         payload
     }
 
-    /// Own frames: method 0, parameter 1 0, parameter 2 the index on record,
-    /// which is 0 where nobody is listed.
+    /// Own frames: the board's subnet, method 0, parameter 1 0, parameter 2 the
+    /// index on record, which is 0 where nobody is listed.
     fn own<'a>(&self, board: usize, message_type: u8, packet: u8, payload: &'a [u8]) -> Frame<'a> {
         Frame {
             destination: self.address(board),
             source: COORDINATOR,
-            subnet: self.coordinator.subnet,
+            subnet: self.subnet_at(board),
             method: 0,
             parameter1: 0,
             parameter2: self.record(board).index,
@@ -468,7 +494,7 @@ impl Panel {
         Frame {
             destination: self.address(board),
             source: COORDINATOR,
-            subnet: self.coordinator.subnet,
+            subnet: self.subnet_at(board),
             method: message.method,
             parameter1: message.parameter1,
             parameter2,

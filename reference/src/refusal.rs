@@ -26,6 +26,7 @@ pub enum Refusal {
     StateUnfit = 22,
     NotDiscovering = 23,
     OtherSubnet = 24,
+    TooManyTypes = 25,
     BadLength = 26,
     NoSlot = 27,
     BadInner = 30,

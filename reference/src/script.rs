@@ -6,7 +6,7 @@ use crate::panel::{Action, Answer, Outcome, Panel, Settings};
 /// One line that is well formed.
 enum Command {
     Setup { subnet: u8, internal: u8, mac: u64, session: u64, pool: Vec<u8> },
-    Join { node_type: u8, mac: u64, session: u64 },
+    Join { node_type: u8, mac: u64, session: u64, version: u8 },
     Discover { room: usize },
     Turn { room: usize },
     Frame { room: usize, bytes: Vec<u8> },
@@ -44,7 +44,9 @@ fn run(panel: &mut Panel, command: Command) -> String {
                 Err(refusal) => refused(refusal),
             }
         }
-        Command::Join { node_type, mac, session } => tell(panel.join(node_type, mac, session), &[]),
+        Command::Join { node_type, mac, session, version } => {
+            tell(panel.join(node_type, mac, session, version), &[])
+        }
         Command::Discover { room } => {
             let mut out = vec![0; room];
             tell(panel.discover(&mut out), &out)
@@ -70,9 +72,8 @@ fn table(panel: &Panel) -> String {
         let address = panel.address(position);
         let (kind, mac, session) = (record.node_type, record.mac, record.session);
         let (misses, owed, index) = (record.misses, u8::from(record.owed), record.index);
-        let row = format!("{position} {address} {kind} {mac} {session} {misses} {owed} {index}");
-        text.push('\n');
-        text.push_str(&row);
+        let state = format!("{misses} {owed} {index} {}", record.version);
+        text.push_str(&format!("\n{position} {address} {kind} {mac} {session} {state}"));
     }
     text
 }
@@ -110,10 +111,11 @@ fn parse(words: &[&str]) -> Option<Command> {
             session: number(session)?,
             pool: addresses.iter().map(|word| byte(word)).collect::<Option<Vec<u8>>>()?,
         }),
-        ["join", node_type, mac, session] => Some(Command::Join {
+        ["join", node_type, mac, session, version] => Some(Command::Join {
             node_type: byte(node_type)?,
             mac: number(mac)?,
             session: number(session)?,
+            version: byte(version)?,
         }),
         ["discover", size] => Some(Command::Discover { room: room(size)? }),
         ["turn", size] => Some(Command::Turn { room: room(size)? }),
@@ -137,7 +139,7 @@ mod tests {
 
     #[test]
     fn before_a_setup_steps_answer_22() {
-        let script = "join 1 1 1\ndiscover 64\nturn 64\nframe 64\nquiet\ntable\n";
+        let script = "join 1 1 1 2\ndiscover 64\nturn 64\nframe 64\nquiet\ntable\n";
         let answers = answers(script);
         assert_eq!(answers[..5], ["refuse 22"; 5]);
         assert_eq!(answers[5], "listed 0");
@@ -145,7 +147,7 @@ mod tests {
 
     #[test]
     fn a_first_round() {
-        let script = "setup 3 1 1 2 2 5 9\njoin 2 7 8\nturn 64\nquiet\nturn 64\nquiet\ntable\n";
+        let script = "setup 3 1 1 2 2 5 9\njoin 2 7 8 2\nturn 64\nquiet\nturn 64\nquiet\ntable\n";
         let expected = [
             "ready 3",
             "rest joined 1",
@@ -154,19 +156,29 @@ mod tests {
             "wait 1 offer 29 02FF03000000A5008011000100000000000000020000000000000021F4",
             "rest",
             "listed 1",
-            "1 2 2 7 8 2 0 0",
+            "1 2 2 7 8 2 0 0 2",
         ];
         assert_eq!(answers(script), expected);
     }
 
     /// Two boards of a type; the first then misses for the third time.
     #[test]
-    fn a_table_has_the_index_as_its_last_column() {
-        let script = "setup 3 1 1 2 2 5 9\njoin 2 7 8\nturn 64\nquiet\nturn 64\nquiet\n\
-                      join 2 9 8\ntable\nturn 64\nquiet\ntable\n";
+    fn a_table_has_the_index_as_its_last_column_but_one() {
+        let script = "setup 3 1 1 2 2 5 9\njoin 2 7 8 2\nturn 64\nquiet\nturn 64\nquiet\n\
+                      join 2 9 8 2\ntable\nturn 64\nquiet\ntable\n";
         let answers = answers(script);
-        assert_eq!(answers[7..10], ["listed 2", "1 2 2 7 8 2 1 0", "2 5 2 9 8 0 1 1"]);
-        assert_eq!(answers[11..], ["rest dropped 1", "listed 1", "2 5 2 9 8 0 1 0"]);
+        assert_eq!(answers[7..10], ["listed 2", "1 2 2 7 8 2 1 0 2", "2 5 2 9 8 0 1 1 2"]);
+        assert_eq!(answers[11..], ["rest dropped 1", "listed 1", "2 5 2 9 8 0 1 0 2"]);
+    }
+
+    /// A version is 1 or 2 there, whatever byte the join had (C-15).
+    #[test]
+    fn a_table_has_the_version_as_its_last_column() {
+        for version in 0..=255 {
+            let script = format!("setup 3 1 1 2 5\njoin 2 7 8 {version}\ntable\n");
+            let kept = if version == 1 { 1 } else { 2 };
+            assert_eq!(answers(&script)[3], format!("1 5 2 7 8 0 1 0 {kept}"));
+        }
     }
 
     #[test]
@@ -191,10 +203,6 @@ mod tests {
             "discover 1025",
             "discover 5 5",
             "Discover 5",
-            "join 256 1 1",
-            "join 1 18446744073709551616 1",
-            "join 1 1 18446744073709551616",
-            "join 1 1",
             "setup 256 1 1 1 1",
             "setup 1 256 1 1 1",
             "setup 1 1 1 1 256",
@@ -217,6 +225,23 @@ mod tests {
     }
 
     #[test]
+    fn joins_that_lack_a_number_or_have_one_that_does_not_fit_are_bad_lines() {
+        for line in [
+            "join 256 1 1 2",
+            "join 1 18446744073709551616 1 2",
+            "join 1 1 18446744073709551616 2",
+            "join 1 1",
+            "join 1 1 1",
+            "join 1 1 1 256",
+            "join 1 1 1 -1",
+            "join 1 1 1 1.0",
+            "join 1 1 1 1 1",
+        ] {
+            assert_eq!(answers(line), ["bad line 1"], "{line}");
+        }
+    }
+
+    #[test]
     fn numbers_that_fit_are_taken() {
         let most = format!("frame 1024 {}", "aA".repeat(1024));
         for line in [
@@ -224,7 +249,7 @@ mod tests {
             "turn 0",
             "turn 007",
             "discover 1024",
-            "join 255 0 18446744073709551615",
+            "join 255 0 18446744073709551615 2",
             &most,
         ] {
             assert_eq!(answers(line), ["refuse 22"], "{line}");

@@ -2,6 +2,7 @@
 //! the two are fit (01, "Boards and positions" and "Fit").
 
 use crate::frame::{Frame, COORDINATOR_TYPE, MAX_PAYLOAD};
+use crate::version;
 
 /// 01: the host lends forty records.
 pub const RECORDS: usize = 40;
@@ -18,6 +19,8 @@ pub struct Record {
     pub owed: bool,
     /// The number of lower listed positions of its type (C-13).
     pub index: u8,
+    /// 1 of a 1.0 board, 2 of any other (C-15).
+    pub version: u8,
 }
 
 impl Record {
@@ -51,12 +54,13 @@ impl Message {
 }
 
 /// Who a board is: what a join tells of it, and what it tells of itself when it
-/// is discovered or identified (003, tables 58 and 62).
+/// is discovered or identified (003, tables 58 and 62; the version 4.3).
 #[derive(Clone, Copy, Debug, Default, PartialEq, Eq)]
 pub struct Identity {
     pub node_type: u8,
     pub mac: u64,
     pub session: u64,
+    pub version: u8,
 }
 
 /// The kind of exchange in which the panel waits for a board. The last three
@@ -175,7 +179,10 @@ fn record_fits(record: &Record) -> bool {
     if !record.listed() {
         return *record == Record::default();
     }
-    type_fits(record.node_type) && mac_fits(record.mac) && record.misses <= 2
+    type_fits(record.node_type)
+        && mac_fits(record.mac)
+        && record.misses <= 2
+        && version::fits(record.version)
 }
 
 fn macs_differ(records: &[Record]) -> bool {
@@ -192,11 +199,18 @@ fn indexes_fit(records: &[Record]) -> bool {
     })
 }
 
+/// The listed boards by type and version.
+pub fn boards(records: &[Record]) -> Vec<(u8, u8)> {
+    let listed = records.iter().filter(|record| record.listed());
+    listed.map(|record| (record.node_type, record.version)).collect()
+}
+
 fn records_fit(records: &[Record], k: usize) -> bool {
     let forty = records.len() == RECORDS;
     let past_free = records.iter().skip(k).all(|record| !record.listed());
     let each_fits = records.iter().all(record_fits);
-    forty && past_free && each_fits && macs_differ(records) && indexes_fit(records)
+    let differ = macs_differ(records) && indexes_fit(records);
+    forty && past_free && each_fits && differ && !version::too_many_types(&boards(records))
 }
 
 fn is_listed(records: &[Record], position: usize) -> bool {
@@ -216,7 +230,7 @@ fn response_fits(response: &Message) -> bool {
 
 /// What was discovered is within the ranges of a join.
 fn identity_fits(found: &Identity) -> bool {
-    type_fits(found.node_type) && mac_fits(found.mac)
+    type_fits(found.node_type) && mac_fits(found.mac) && version::fits(found.version)
 }
 
 /// In a discovery the position at stake need not be listed.
@@ -265,7 +279,7 @@ mod tests {
     use super::*;
 
     fn board(node_type: u8, mac: u64) -> Record {
-        Record { node_type, mac, session: 1, ..Record::default() }
+        Record { node_type, mac, session: 1, version: version::LATER, ..Record::default() }
     }
 
     fn sample() -> (Vec<Record>, Coordinator) {
@@ -301,6 +315,7 @@ mod tests {
         assert!(!fit_after(|r, _| r[0].mac = 8));
         assert!(!fit_after(|r, _| r[0].misses = 3));
         assert!(!fit_after(|r, _| r[1].owed = true));
+        assert!(!fit_after(|r, _| r[1].version = version::LATER));
         assert!(!fit_after(|r, _| r[3] = board(4, 11)));
     }
 
@@ -314,6 +329,37 @@ mod tests {
             let (twin, other) = (board(2, 9), board(5, 9));
             assert_eq!(fit_after(|r, _| r[1] = Record { index, ..twin }), index == 1);
             assert!(!fit_after(|r, _| r[1] = Record { index, ..other }));
+        }
+    }
+
+    #[test]
+    fn a_listed_board_has_version_1_or_2() {
+        for version in 0..=255 {
+            assert_eq!(fit_after(|r, _| r[0].version = version), [1, 2].contains(&version));
+        }
+    }
+
+    /// So many boards of different types, and one more of the first's; the last
+    /// ones, as many as said, speak 1.0.
+    fn fit_of_types(types: u8, old: usize) -> bool {
+        let kinds = (1..=types).chain([1]);
+        fit_after(move |r, c| {
+            c.pool = (1..=40).collect();
+            for (place, kind) in kinds.clone().enumerate() {
+                let later = place + old <= usize::from(types);
+                let version = if later { version::LATER } else { version::OLD };
+                let index = u8::from(place == usize::from(types));
+                r[place] = Record { version, index, ..board(kind, 1 + place as u64) };
+            }
+        })
+    }
+
+    #[test]
+    fn a_1_0_board_among_more_than_15_types_is_unfit() {
+        for types in 3..=30 {
+            for old in 0..=3 {
+                assert_eq!(fit_of_types(types, old), old == 0 || types <= 15, "{types} {old}");
+            }
         }
     }
 
@@ -387,7 +433,7 @@ mod tests {
 
     #[test]
     fn a_discovery_names_a_position_listed_or_not_and_whom_it_found() {
-        let found = Identity { node_type: 9, mac: 11, session: 0 };
+        let found = Identity { node_type: 9, mac: 11, session: 0, version: 2 };
         for at in 0..=4 {
             let fits = (1..=3).contains(&at);
             assert_eq!(in_phase(Phase::Waiting { board: at, exchange: Exchange::Search }), fits);
@@ -401,6 +447,8 @@ mod tests {
             Identity { node_type: 165, ..found },
             Identity { mac: 0, ..found },
             Identity { mac: MAX_MAC + 1, ..found },
+            Identity { version: 0, ..found },
+            Identity { version: 3, ..found },
         ];
         for misfit in misfits {
             assert!(with_found(2, misfit).into_iter().all(|phase| !in_phase(phase)));

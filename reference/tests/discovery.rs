@@ -12,15 +12,15 @@ use reference::state::{Exchange, Identity, Phase};
 
 const POOL: [u8; 4] = [2, 5, 9, 77];
 /// Boards 1 and 2 of the tests, and one that is new.
-const FIRST: Identity = Identity { node_type: 2, mac: 101, session: 1 };
-const SECOND: Identity = Identity { node_type: 2, mac: 102, session: 2 };
-const NEW: Identity = Identity { node_type: 5, mac: 103, session: 3 };
+const FIRST: Identity = Identity { node_type: 2, mac: 101, session: 1, version: 2 };
+const SECOND: Identity = Identity { node_type: 2, mac: 102, session: 2, version: 2 };
+const NEW: Identity = Identity { node_type: 5, mac: 103, session: 3, version: 2 };
 
 /// A panel at rest with these boards, none held, none owed.
 fn with(boards: &[Identity]) -> Panel {
     let mut panel = ready(&POOL);
     for board in boards {
-        panel.join(board.node_type, board.mac, board.session).unwrap();
+        panel.join(board.node_type, board.mac, board.session, board.version).unwrap();
         panel.records.iter_mut().for_each(|record| record.owed = false);
         panel.coordinator.held = false;
     }
@@ -95,7 +95,7 @@ fn joined(position: usize) -> Answer {
 /// discovery was started.
 fn after_join(before: &Panel, board: &Identity) -> Panel {
     let mut panel = before.clone();
-    panel.join(board.node_type, board.mac, board.session).unwrap();
+    panel.join(board.node_type, board.mac, board.session, board.version).unwrap();
     panel.coordinator.started = true;
     panel
 }
@@ -188,7 +188,7 @@ fn a_listed_board_comes_back_to_its_own_position() {
 
 #[test]
 fn somebody_who_has_the_address_joins_in_place_of_the_one_found() {
-    let holder = Identity { node_type: 4, mac: 900, session: 9 };
+    let holder = Identity { node_type: 4, mac: 900, session: 9, version: 2 };
     for acks in [false, true] {
         let before = two();
         let mut panel = before.clone();
@@ -256,9 +256,9 @@ fn what_is_not_examined_may_be_anything() {
 
 // ---- a board that is found again as something else (C-12) ---------------
 
-const THERMOSTAT: Identity = Identity { node_type: 1, mac: 110, session: 10 };
-const FURNACE: Identity = Identity { node_type: 2, mac: 111, session: 11 };
-const AIR_HANDLER: Identity = Identity { node_type: 3, mac: 112, session: 12 };
+const THERMOSTAT: Identity = Identity { node_type: 1, mac: 110, session: 10, version: 2 };
+const FURNACE: Identity = Identity { node_type: 2, mac: 111, session: 11, version: 2 };
+const AIR_HANDLER: Identity = Identity { node_type: 3, mac: 112, session: 12, version: 2 };
 /// The furnace, re-jumpered.
 const RE_JUMPERED: Identity = Identity { node_type: 3, ..FURNACE };
 
@@ -385,7 +385,7 @@ fn a_board_that_is_found_raises_those_of_its_type_above_it() {
     for message_type in [0xFA, 0xFB] {
         for (node_type, after) in [(2, [0, 1, 2, 0]), (5, [0, 0, 1, 0])] {
             let mut panel = first_gone();
-            let found = Identity { node_type, mac: 900, session: 9 };
+            let found = Identity { node_type, mac: 900, session: 9, version: 2 };
             assert_eq!(end_well(&mut panel, message_type, &found, 1), 0);
             assert_eq!(indexes(&panel), after);
         }
@@ -431,7 +431,7 @@ fn another_index_is_refused_by_22_in_every_stage() {
             panel.records[place].index = wrong;
             let response = bytes(9, 0xFB, &identified(&NEW));
             refused_frame(&mut panel, Refusal::StateUnfit, &response);
-            refused(&mut panel, Refusal::StateUnfit, |panel, _| panel.join(0, 0, 0));
+            refused(&mut panel, Refusal::StateUnfit, |panel, _| panel.join(0, 0, 0, 2));
             refused(&mut panel, Refusal::StateUnfit, |panel, out| panel.discover(out));
             refused(&mut panel, Refusal::StateUnfit, |panel, out| panel.turn(out));
             refused(&mut panel, Refusal::StateUnfit, |panel, _| panel.quiet());
@@ -488,7 +488,7 @@ fn an_ack_without_a_response_breaks_off() {
 
 #[test]
 fn a_response_that_cannot_join_there_breaks_off_with_its_ack() {
-    let stranger = Identity { node_type: 4, mac: 900, session: 9 };
+    let stranger = Identity { node_type: 4, mac: 900, session: 9, version: 2 };
     // at a free position: a misfit, or one that is listed elsewhere
     let mut cases: Vec<(Identity, u8, Identity)> = vec![(NEW, 9, FIRST), (NEW, 9, SECOND)];
     cases.extend(misfits().map(|misfit| (NEW, 9, misfit)));
@@ -567,7 +567,7 @@ fn a_listed_board_is_heard_by_its_own_mac_alone() {
 
         let mut panel = nearly_dropped();
         identify(&mut panel, &SECOND);
-        let answer = Identity { node_type: 165, mac, session: 5 };
+        let answer = Identity { node_type: 165, mac, session: 5, version: 2 };
         assert_eq!(give(&mut panel, 5, 0xFB, &identified(&answer)), transmit(29));
         assert_eq!((panel.record(2).misses, panel.record(2).session), (misses, 2));
         assert_eq!(panel.record(1).misses, 0);
@@ -603,7 +603,7 @@ fn the_memory_outlives_an_empty_table_and_ends_with_an_offer() {
     let mut panel = ready(&POOL);
     discover(&mut panel);
     assert_eq!(panel.quiet(), rest());
-    panel.join(2, 101, 1).unwrap();
+    panel.join(2, 101, 1, 2).unwrap();
     assert_eq!(turn(&mut panel).1, Exchange::List);
     panel.quiet().unwrap();
     panel.coordinator.held = false;
@@ -658,10 +658,10 @@ fn joins_and_discoveries_get_14_in_every_stage() {
     for start in [ready(&POOL), two()] {
         for mut panel in stages(&start) {
             refused(&mut panel, Refusal::Busy, |panel, _| panel.discover(&mut []));
-            refused(&mut panel, Refusal::BadType, |panel, _| panel.join(165, 0, 0));
-            refused(&mut panel, Refusal::BadMac, |panel, _| panel.join(4, 0, 0));
+            refused(&mut panel, Refusal::BadType, |panel, _| panel.join(165, 0, 0, 2));
+            refused(&mut panel, Refusal::BadMac, |panel, _| panel.join(4, 0, 0, 2));
             for mac in [101, NEW.mac, 900] {
-                refused(&mut panel, Refusal::Busy, |panel, _| panel.join(4, mac, 0));
+                refused(&mut panel, Refusal::Busy, |panel, _| panel.join(4, mac, 0, 2));
             }
         }
     }
@@ -802,7 +802,7 @@ fn responses_of_the_exchange_get_23_where_none_runs() {
     let mut offered = two();
     turn(&mut offered);
     let mut listing = two();
-    listing.join(2, 101, 1).unwrap();
+    listing.join(2, 101, 1, 2).unwrap();
     let list_due = listing.clone();
     turn(&mut listing);
     for mut panel in [ready(&POOL), two(), offered, list_due, listing] {

@@ -16,7 +16,7 @@ fn with_boards(pool: &[u8], types: &[u8]) -> Panel {
     let mut panel = ready(pool);
     for (place, &kind) in types.iter().enumerate() {
         let number = place as u64 + 1;
-        assert_eq!(panel.join(kind, number, 100 + number).unwrap().joined, place + 1);
+        assert_eq!(panel.join(kind, number, 100 + number, 2).unwrap().joined, place + 1);
         while panel.records.iter().any(|record| record.owed) {
             turn(&mut panel);
             assert!(answer(&mut panel).is_ok());
@@ -153,7 +153,7 @@ fn offers_go_round_and_carry_mac_session_and_index() {
 #[test]
 fn lists_go_to_the_lowest_owed_with_packet_number_0() {
     let mut panel = with_boards(&[2, 5, 9], &[2, 5]);
-    panel.join(5, 99, 1).unwrap();
+    panel.join(5, 99, 1, 2).unwrap();
     for board in 1..=3 {
         let (named, exchange, bytes) = turn(&mut panel);
         assert_eq!((named, exchange), (board, Exchange::List));
@@ -171,7 +171,7 @@ fn a_list_does_not_restart_the_round() {
     let mut panel = with_boards(&[2, 5, 9], &[2, 5, 2]);
     turn(&mut panel);
     assert_eq!(ack(&mut panel), rest());
-    panel.join(2, 1, 555).unwrap();
+    panel.join(2, 1, 555, 2).unwrap();
     for _ in 0..3 {
         turn(&mut panel);
         assert_eq!(answer(&mut panel), transmit(29));
@@ -286,9 +286,9 @@ fn a_board_that_comes_back_keeps_its_address_and_has_the_type_it_joins_with() {
     for node_type in [5, 9] {
         let mut panel = with_boards(&[2, 5, 9], &[2, 5]);
         panel.records[1].misses = 2;
-        assert_eq!(panel.join(node_type, 2, 4711).unwrap().joined, 2);
+        assert_eq!(panel.join(node_type, 2, 4711, 2).unwrap().joined, 2);
         let (mac, session, owed) = (2, 4711, true);
-        let record = Record { node_type, mac, session, owed, ..Record::default() };
+        let record = Record { node_type, mac, session, owed, version: 2, ..Record::default() };
         assert_eq!(panel.record(2), &record);
         assert!(panel.record(1).owed && panel.coordinator.held);
     }
@@ -298,19 +298,19 @@ fn a_board_that_comes_back_keeps_its_address_and_has_the_type_it_joins_with() {
 fn freed_positions_are_given_again_lowest_first() {
     let mut panel = with_boards(&[2, 5, 9], &[2, 5, 4]);
     panel.records[0] = Default::default();
-    assert_eq!(panel.join(9, 50, 1).unwrap().joined, 1);
+    assert_eq!(panel.join(9, 50, 1, 2).unwrap().joined, 1);
 }
 
 #[test]
 fn the_hold_ends_when_nobody_is_listed() {
     let mut panel = ready(&[2]);
-    panel.join(2, 7, 8).unwrap();
+    panel.join(2, 7, 8, 2).unwrap();
     assert!(panel.coordinator.held);
     panel.records[0].misses = 2;
     turn(&mut panel);
     assert_eq!(panel.quiet().unwrap().dropped, 1);
     assert!(!panel.coordinator.held);
-    assert_eq!(panel.join(2, 7, 8).unwrap().joined, 1);
+    assert_eq!(panel.join(2, 7, 8, 2).unwrap().joined, 1);
 }
 
 // ---- a board that comes back as something else (C-12) ------------------
@@ -318,14 +318,14 @@ fn the_hold_ends_when_nobody_is_listed() {
 /// A furnace, a thermostat and an air handler; the furnace was re-jumpered.
 fn re_jumpered() -> Panel {
     let mut panel = with_boards(&[2, 5, 9], &[2, 1, 3]);
-    assert_eq!(panel.join(3, 1, 101).unwrap().joined, 1);
+    assert_eq!(panel.join(3, 1, 101, 2).unwrap().joined, 1);
     panel
 }
 
 #[test]
 fn a_listed_mac_leaves_the_record_that_a_new_one_would() {
     let mut new = ready(&[2, 5, 9]);
-    new.join(3, 1, 101).unwrap();
+    new.join(3, 1, 101, 2).unwrap();
     assert_eq!(re_jumpered().record(1), new.record(1));
 }
 
@@ -358,10 +358,10 @@ fn requests_by_type_go_where_the_new_types_are() {
 fn types_0_and_165_retype_no_listed_board() {
     for node_type in [0, 165] {
         let mut panel = with_boards(&[2, 5, 9], &[2, 1, 3]);
-        refused(&mut panel, Refusal::BadType, |panel, _| panel.join(node_type, 1, 7));
-        assert_eq!(panel.join(3, 1, 7).unwrap().joined, 1);
+        refused(&mut panel, Refusal::BadType, |panel, _| panel.join(node_type, 1, 7, 2));
+        assert_eq!(panel.join(3, 1, 7, 2).unwrap().joined, 1);
         // 12 is told before 14 and 15
-        refused(&mut panel, Refusal::BadType, |panel, _| panel.join(node_type, 1, 7));
+        refused(&mut panel, Refusal::BadType, |panel, _| panel.join(node_type, 1, 7, 2));
     }
 }
 
@@ -395,7 +395,7 @@ fn a_join_raises_those_of_its_type_above_it_and_nobody_below() {
     for (node_type, after) in [(2, [0, 1, 2, 0, 3]), (5, [0, 0, 1, 1, 2]), (9, [0, 0, 1, 0, 2])] {
         let mut panel = panel.clone();
         unowed(&mut panel);
-        assert_eq!(panel.join(node_type, 50, 1).unwrap().joined, 2);
+        assert_eq!(panel.join(node_type, 50, 1, 2).unwrap().joined, 2);
         assert_eq!(indexes(&panel), after);
     }
 }
@@ -405,7 +405,7 @@ fn a_join_as_it_was_moves_nobody() {
     let mut panel = with_boards(&FIVE, &[2, 2, 5, 2, 5]);
     for mac in 1..=5 {
         unowed(&mut panel);
-        panel.join(panel.records[mac - 1].node_type, mac as u64, 7).unwrap();
+        panel.join(panel.records[mac - 1].node_type, mac as u64, 7, 2).unwrap();
         assert_eq!(indexes(&panel), [0, 1, 0, 2, 1]);
     }
 }
@@ -414,10 +414,10 @@ fn a_join_as_it_was_moves_nobody() {
 fn a_retyping_moves_the_indexes_above_it_alone() {
     let mut panel = with_boards(&FIVE, &[3, 2, 2, 3, 2]);
     assert_eq!(indexes(&panel), [0, 0, 1, 1, 2]);
-    panel.join(3, 2, 102).unwrap();
+    panel.join(3, 2, 102, 2).unwrap();
     assert_eq!(indexes(&panel), [0, 1, 0, 2, 1]);
     unowed(&mut panel);
-    panel.join(2, 2, 102).unwrap();
+    panel.join(2, 2, 102, 2).unwrap();
     assert_eq!(indexes(&panel), [0, 0, 1, 1, 2]);
 }
 
@@ -465,7 +465,7 @@ fn every_step_refuses_another_index_by_22() {
             let right = panel.records[place].index;
             for wrong in (0..=255).filter(|&index| index != right) {
                 panel.records[place].index = wrong;
-                refused(&mut panel, Refusal::StateUnfit, |panel, _| panel.join(2, 50, 0));
+                refused(&mut panel, Refusal::StateUnfit, |panel, _| panel.join(2, 50, 0, 2));
                 refused(&mut panel, Refusal::StateUnfit, |panel, out| panel.discover(out));
                 refused(&mut panel, Refusal::StateUnfit, |panel, out| panel.turn(out));
                 refused(&mut panel, Refusal::StateUnfit, |panel, out| panel.frame(&good, out));
@@ -537,7 +537,7 @@ fn types_that_the_wait_does_not_take_are_refused_by_7() {
 #[test]
 fn after_a_list_an_ack_gets_7_and_another_payload_8() {
     let mut panel = ready(&[2, 5]);
-    panel.join(2, 1, 101).unwrap();
+    panel.join(2, 1, 101, 2).unwrap();
     turn(&mut panel);
     let acknowledged = bytes_of(&from_awaited(&panel, 0, &ack_payload(1, 101)));
     refused_frame(&mut panel, Refusal::UnexpectedType, &acknowledged);
@@ -599,20 +599,20 @@ fn turns_are_refused_by_18_19_and_11() {
 #[test]
 fn joins_are_refused_by_12_to_16() {
     let mut panel = with_boards(&[2], &[2]);
-    refused(&mut panel, Refusal::BadType, |panel, _| panel.join(0, 0, 0));
-    refused(&mut panel, Refusal::BadType, |panel, _| panel.join(165, 9, 0));
-    refused(&mut panel, Refusal::BadMac, |panel, _| panel.join(2, 0, 0));
-    refused(&mut panel, Refusal::BadMac, |panel, _| panel.join(2, 1 << 56, 0));
-    refused(&mut panel, Refusal::Full, |panel, _| panel.join(2, 9, 0));
-    assert_eq!(panel.join(2, 1, 7).unwrap().joined, 1);
-    refused(&mut panel, Refusal::Busy, |panel, _| panel.join(2, 9, 0));
+    refused(&mut panel, Refusal::BadType, |panel, _| panel.join(0, 0, 0, 2));
+    refused(&mut panel, Refusal::BadType, |panel, _| panel.join(165, 9, 0, 2));
+    refused(&mut panel, Refusal::BadMac, |panel, _| panel.join(2, 0, 0, 2));
+    refused(&mut panel, Refusal::BadMac, |panel, _| panel.join(2, 1 << 56, 0, 2));
+    refused(&mut panel, Refusal::Full, |panel, _| panel.join(2, 9, 0, 2));
+    assert_eq!(panel.join(2, 1, 7, 2).unwrap().joined, 1);
+    refused(&mut panel, Refusal::Busy, |panel, _| panel.join(2, 9, 0, 2));
     turn(&mut panel);
-    refused(&mut panel, Refusal::Busy, |panel, _| panel.join(2, 9, 0));
+    refused(&mut panel, Refusal::Busy, |panel, _| panel.join(2, 9, 0, 2));
     assert_eq!(panel.quiet(), rest());
-    refused(&mut panel, Refusal::Held, |panel, _| panel.join(2, 1, 0));
+    refused(&mut panel, Refusal::Held, |panel, _| panel.join(2, 1, 0, 2));
     turn(&mut panel);
     assert_eq!(panel.quiet(), rest());
-    assert_eq!(panel.join(2, 1, 8).unwrap().joined, 1);
+    assert_eq!(panel.join(2, 1, 8, 2).unwrap().joined, 1);
 }
 
 /// C-23: this is why no join asks for it. Every choice of listed positions is
@@ -625,9 +625,10 @@ fn the_address_taken_for_a_new_mac_is_in_no_listed_record() {
             panel.records[place].node_type = 2;
             panel.records[place].mac = 1 + place as u64;
             panel.records[place].index = index;
+            panel.records[place].version = 2;
         }
         let others: Vec<u8> = panel.listed().map(|at| panel.address(at)).collect();
-        let joined = panel.join(2, 9, 0).unwrap().joined;
+        let joined = panel.join(2, 9, 0, 2).unwrap().joined;
         assert!(!others.contains(&panel.address(joined)));
     }
 }
@@ -637,11 +638,11 @@ fn joins_are_busy_while_a_forward_or_return_is_due() {
     let mut panel = with_boards(&[2, 5, 9], &[2, 5]);
     turn(&mut panel);
     assert_eq!(request(&mut panel, 3, 2, 5), transmit(29));
-    refused(&mut panel, Refusal::Busy, |panel, _| panel.join(2, 9, 0));
+    refused(&mut panel, Refusal::Busy, |panel, _| panel.join(2, 9, 0, 2));
     turn(&mut panel);
     let frame = from_awaited(&panel, 131, &[]);
     assert_eq!(give(&mut panel, &frame), transmit(29));
-    refused(&mut panel, Refusal::Busy, |panel, _| panel.join(2, 9, 0));
+    refused(&mut panel, Refusal::Busy, |panel, _| panel.join(2, 9, 0, 2));
 }
 
 #[test]
@@ -667,7 +668,7 @@ fn setups_are_refused_by_22_21_and_13() {
 fn unfit_state_is_refused_by_22_before_all_else() {
     let mut panel = with_boards(&[2], &[2]);
     panel.records[0].misses = 3;
-    refused(&mut panel, Refusal::StateUnfit, |panel, _| panel.join(0, 0, 0));
+    refused(&mut panel, Refusal::StateUnfit, |panel, _| panel.join(0, 0, 0, 2));
     refused(&mut panel, Refusal::StateUnfit, |panel, out| panel.turn(out));
     refused(&mut panel, Refusal::StateUnfit, |panel, out| panel.frame(&[], out));
     refused(&mut panel, Refusal::StateUnfit, |panel, _| panel.quiet());

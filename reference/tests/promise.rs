@@ -1,4 +1,4 @@
-//! Demand 3 and what C-11 to C-14 add to it, watched from outside: the model below
+//! Demand 3 and what C-11 to C-15 add to it, watched from outside: the model below
 //! sees only the lines of a generated script and their answers.
 
 use reference::checksum;
@@ -13,6 +13,8 @@ struct Seen {
     listed: bool,
     /// The type that the board's last join told (C-12).
     node_type: u8,
+    /// 1 or 2, by the board's last join or by how it was discovered (C-15).
+    version: u8,
     mac: u64,
     misses: usize,
     offers: usize,
@@ -38,12 +40,18 @@ struct Watch {
     exchange: usize,
     identifies: bool,
     started: bool,
-    /// The type that the response to a search told.
+    /// The type and the version that the response to a search told.
     discovered: u8,
+    found_version: u8,
+    /// Whether a 1.0 board may answer now.
+    hears_old: bool,
     found: usize,
     retyped: usize,
     /// The frames of another subnet.
     overheard: usize,
+    /// The condensed lists, and the joins refused by 25.
+    condensed: usize,
+    too_many: usize,
 }
 
 impl Watch {
@@ -54,6 +62,10 @@ impl Watch {
         if step == "frame" && self.k > 0 {
             self.keeps_to_its_subnet(line, answer);
         }
+        if step == "join" {
+            self.keeps_to_its_types(line, answer);
+        }
+        let exchanges = self.exchange > 0;
         match (step, &words[..]) {
             (_, ["refuse" | "bad", ..]) => return,
             ("table", _) => return self.shown(answer),
@@ -61,7 +73,8 @@ impl Watch {
             ("discover", ["wait", _, "search", ..]) => self.discovery(),
             (step, _) if self.exchange > 0 => self.in_exchange(step, line, &words),
             ("join", ["rest", "joined", at]) => {
-                self.joined(at, word(line, 1).parse().unwrap(), word(line, 2).parse().unwrap());
+                let (node_type, mac, version) = joiner(line);
+                self.joined(at, node_type, mac, version);
             }
             ("turn", ["wait", at, kind, _, sent]) => {
                 self.sent(at.parse().unwrap(), kind, &language::pairs(sent).unwrap());
@@ -72,34 +85,91 @@ impl Watch {
             _ => panic!("{line}: {answer}"),
         }
         self.carries_index(&words);
+        self.carries_subnet(&words, exchanges);
+        self.hears_old = self.may_hear_old(&words);
         self.count_step();
     }
 
     fn start(&mut self, k: usize, line: &str) {
         let (subnet, internal) = (word(line, 1).parse().unwrap(), word(line, 2).parse().unwrap());
         let boards = vec![Seen::default(); k + 1];
-        let Watch { found, retyped, overheard, .. } = *self;
-        let counts = Watch { found, retyped, overheard, ..Watch::default() };
+        let Watch { found, retyped, overheard, condensed, too_many, .. } = *self;
+        let counts = Watch { found, retyped, overheard, condensed, too_many, ..Watch::default() };
         *self = Watch { k, subnet, internal, boards, ..counts };
     }
 
-    /// C-14: 24 is for a good frame whose subnet is neither ours nor 0, and for
-    /// no other. It is refused, so the board is not heard by it.
+    /// C-14: 24 is for a good frame whose subnet is neither ours nor 0, nor 2 where
+    /// a 1.0 board may answer (C-15), and for no other. It is refused, so the board
+    /// is not heard by it.
     fn keeps_to_its_subnet(&mut self, line: &str, answer: &str) {
         let bytes = language::pairs(word(line, 2)).unwrap_or_default();
         let length = bytes.get(9).map_or(0, |&n| usize::from(n));
         let whole = length <= 240 && bytes.len() == 12 + length;
-        let other = whole && checksum::is_good(&bytes) && ![self.subnet, 0].contains(&bytes[2]);
+        let heard = |subnet| [self.subnet, 0].contains(&subnet) || subnet == 2 && self.hears_old;
+        let other = whole && checksum::is_good(&bytes) && !heard(bytes[2]);
         assert_eq!(answer == "refuse 24", other, "{line}: {answer}");
         self.overheard += usize::from(other);
     }
 
-    fn joined(&mut self, at: &str, node_type: u8, mac: u64) {
+    /// C-15: in a search, and while the board awaited or discovered speaks 1.0.
+    fn may_hear_old(&self, answer: &[&str]) -> bool {
+        match (self.exchange, answer) {
+            (1, _) => true,
+            (2.., _) => self.found_version == 1,
+            (_, ["wait", at, ..]) => self.boards[at.parse::<usize>().unwrap()].version == 1,
+            _ => false,
+        }
+    }
+
+    /// C-15: 25 is for a join that would leave a 1.0 board with more than 15 types,
+    /// and what comes after 25, with what is accepted, for the others.
+    fn keeps_to_its_types(&mut self, line: &str, answer: &str) {
+        if answer == "refuse 25" {
+            assert!(self.too_many_types(joiner(line)), "{line}");
+            self.too_many += 1;
+        }
+        if answer == "refuse 16" || answer.starts_with("rest") {
+            assert!(!self.too_many_types(joiner(line)), "{line}");
+        }
+    }
+
+    /// Whether this board, in the place of its own record if it has one, would be too
+    /// much.
+    fn too_many_types(&self, (node_type, mac, version): (u8, u64, u8)) -> bool {
+        let others = self.boards.iter().filter(|board| board.listed && board.mac != mac);
+        let (mut types, mut old) = ([false; 256], version == 1);
+        types[usize::from(node_type)] = true;
+        for board in others {
+            types[usize::from(board.node_type)] = true;
+            old |= board.version == 1;
+        }
+        old && types.iter().filter(|listed| **listed).count() > 15
+    }
+
+    /// C-15: a frame to a 1.0 board carries subnet 2, to any other ours, to all 0. In
+    /// an exchange it goes by the version of what was discovered.
+    fn carries_subnet(&self, answer: &[&str], exchanges: bool) {
+        let (to_all, sent) = match *answer {
+            ["wait", _, kind, _, sent] => (["search", "assign"].contains(&kind), sent),
+            ["deliver" | "transmit", _, sent, ..] => (false, sent),
+            _ => return,
+        };
+        let version =
+            if exchanges { self.found_version } else { self.boards[self.awaited].version };
+        let expected = match version {
+            _ if to_all => 0,
+            1 => 2,
+            _ => self.subnet,
+        };
+        assert_eq!(language::pairs(sent).unwrap()[2], expected, "{answer:?}");
+    }
+
+    fn joined(&mut self, at: &str, node_type: u8, mac: u64, version: u8) {
         let board = &mut self.boards[at.parse::<usize>().unwrap()];
         let old = if board.listed { *board } else { Seen::default() };
         assert!(!board.listed || board.mac == mac);
         self.retyped += usize::from(old.listed && old.node_type != node_type);
-        *board = Seen { listed: true, node_type, mac, misses: 0, ..old };
+        *board = Seen { listed: true, node_type, version, mac, misses: 0, ..old };
     }
 
     /// The types at positions 1 to k, 0 if free, as the last joins told them.
@@ -113,11 +183,15 @@ impl Watch {
         self.boards[..at].iter().filter(|board| board.listed && board.node_type == kind).count()
     }
 
-    /// C-13: the index in every row of the table is the one counted.
+    /// C-13: the index in every row of the table is the one counted. The version is
+    /// that of the last join (C-15).
     fn shown(&self, table: &str) {
         let column = |row: &str, place| word(row, place).parse::<usize>().unwrap();
-        let row = |row| (column(row, 0), column(row, 2), column(row, 7));
-        let seen = |at: usize| (at, usize::from(self.boards[at].node_type), self.index(at));
+        let row = |row| [0, 2, 7, 8].map(|place| column(row, place));
+        let seen = |at: usize| {
+            let Seen { node_type, version, .. } = self.boards[at];
+            [at, usize::from(node_type), self.index(at), usize::from(version)]
+        };
         let listed = (1..self.boards.len()).filter(|&at| self.boards[at].listed);
         assert!(table.lines().skip(1).map(row).eq(listed.map(seen)), "{table}");
     }
@@ -157,15 +231,19 @@ impl Watch {
             }
             ("frame", ["wait", _, "identify", "0"]) => self.identity_heard(mac_in(line)),
             ("frame", ["rest"]) => {
+                let packet = language::pairs(word(line, 2)).unwrap()[8];
+                self.found_version = if packet & 0x20 == 0 { 2 } else { 1 };
                 self.exchange = self.found_exchange(line);
                 self.discovered = payload(line)[0];
             }
             ("frame", ["transmit", _, _, "joined", at]) => {
                 let told = if self.identifies { payload(line)[0] } else { self.discovered };
-                self.joined(at, told, mac_in(line));
+                assert!(!self.too_many_types((told, mac_in(line), self.found_version)));
+                self.joined(at, told, mac_in(line), self.found_version);
                 (self.exchange, self.found) = (0, self.found + 1);
             }
             ("frame", ["transmit", _, _]) => {
+                self.broken_off(line);
                 self.identity_heard(mac_in(line));
                 self.exchange = 0;
             }
@@ -179,12 +257,24 @@ impl Watch {
     /// would be refused it has broken off.
     fn found_exchange(&self, line: &str) -> usize {
         let (kind, mac) = (payload(line)[0], mac_in(line));
-        let fits = kind != 0 && kind != 165 && (1..1 << 56).contains(&mac);
-        if fits {
+        let too_many = self.too_many_types((kind, mac, self.found_version));
+        if joins(kind, mac) && !too_many {
             self.exchange
         } else {
             0
         }
+    }
+
+    /// Where a Get Node ID Response joined nobody, its join would be refused, or would
+    /// take another position.
+    fn broken_off(&self, line: &str) {
+        let (kind, mac) = (payload(line)[0], mac_in(line));
+        let listed = |board: &&Seen| board.listed && board.mac == mac;
+        let position =
+            self.boards.iter().find(listed).is_some() || self.boards[self.awaited].listed;
+        let elsewhere = position && self.boards[self.awaited].mac != mac;
+        let too_many = self.too_many_types((kind, mac, self.found_version));
+        assert!(!joins(kind, mac) || elsewhere || too_many, "{line}");
     }
 
     /// In identify a listed board is heard by its own MAC alone.
@@ -214,12 +304,37 @@ impl Watch {
     /// told.
     fn goes_by_type(&mut self, at: usize, kind: &str, bytes: &[u8]) {
         assert_eq!((kind == "forward").then_some(at), self.asked.take());
-        if kind == "list" {
+        if kind == "list" && self.boards[at].version == 1 {
+            self.condensed += 1;
+            assert_eq!(bytes[10..bytes.len() - 2], self.condensed_list());
+        } else if kind == "list" {
             let types = self.types();
             let highest = types.iter().rposition(|&kind| kind != 0).unwrap();
             let list = [&[self.internal][..], &types[..=highest]].concat();
             assert_eq!(bytes[10..bytes.len() - 2], list);
         }
+    }
+
+    /// 000, 8.1.2.4: a 1.0 board keeps its byte if it is the lowest of its type; then
+    /// each other type has the lowest one that is open, by its lowest position.
+    fn condensed_list(&self) -> Vec<u8> {
+        let mut list = vec![0; 16];
+        list[0] = self.internal;
+        for (at, board) in self.boards.iter().enumerate().take(16).skip(1) {
+            let (node_type, version, lower) = (board.node_type, board.version, &self.boards[1..at]);
+            let first =
+                lower.iter().all(|other| (other.node_type, other.version) != (node_type, 1));
+            if version == 1 && first {
+                list[at] = node_type;
+            }
+        }
+        for board in self.boards[1..].iter().filter(|board| board.listed) {
+            if !list[1..].contains(&board.node_type) {
+                let open = list[1..].iter().position(|&kind| kind == 0).unwrap();
+                list[1 + open] = board.node_type;
+            }
+        }
+        list
     }
 
     /// Of what is accepted only a request has a type of 1 to 127.
@@ -260,6 +375,17 @@ fn word(line: &str, place: usize) -> &str {
     line.split(' ').nth(place).unwrap_or("")
 }
 
+/// Type, MAC and version of a `join` line: of its last byte 1 alone is a 1.0 board.
+fn joiner(line: &str) -> (u8, u64, u8) {
+    let version = if word(line, 4) == "1" { 1 } else { 2 };
+    (word(line, 1).parse().unwrap_or(0), word(line, 2).parse().unwrap_or(0), version)
+}
+
+/// Whether 12 and 13 let it join.
+fn joins(kind: u8, mac: u64) -> bool {
+    kind != 0 && kind != 165 && (1..1 << 56).contains(&mac)
+}
+
 /// The payload of the frame in a line.
 fn payload(line: &str) -> Vec<u8> {
     let bytes = language::pairs(word(line, 2)).unwrap();
@@ -283,6 +409,7 @@ fn addresses_and_macs_differ(player: &Player) -> bool {
 
 #[test]
 fn generated_scripts_keep_the_promise() {
+    let mut too_many = 0;
     for seed in 100..106 {
         let (mut player, mut watch, mut drops) = (Player::default(), Watch::default(), 0);
         generator::generate(seed, 12000, &mut |line| {
@@ -296,5 +423,8 @@ fn generated_scripts_keep_the_promise() {
             }
         });
         assert!(drops > 20 && watch.found > 20 && watch.retyped > 20 && watch.overheard > 200);
+        assert!(watch.condensed > 200);
+        too_many += watch.too_many;
     }
+    assert!(too_many > 20);
 }

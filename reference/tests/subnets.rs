@@ -1,181 +1,62 @@
 //! Two systems in one conduit (C-14): in every wait a frame of another subnet is
-//! refused by 24, at its place among the numbers, and changes nothing.
+//! refused by 24, at its place among the numbers, and changes nothing. Where a 1.0
+//! board may answer, subnet 2 is none of these (C-15).
 
 mod common;
 
-use common::{ack_payload, ready_on, refused, refused_frame, rest, turn};
+use common::waits::{ack, after_turn, give, to, two, waits, without_a_wait, Bus};
+use common::{refused, refused_frame, rest, turn};
 use reference::checksum;
 use reference::draft::Draft;
 use reference::frame;
 use reference::generator;
 use reference::language;
-use reference::panel::{Action, Answer, Panel};
+use reference::panel::Panel;
 use reference::refusal::Refusal;
 use reference::script::Player;
-use reference::state::{Exchange, Phase};
+use reference::state::Exchange;
+use reference::version::OLD;
 
-const POOL: [u8; 4] = [2, 5, 9, 77];
 /// The subnets of setups that are tried.
 const OURS: [u8; 7] = [3, 2, 4, 1, 0, 254, 255];
-/// A board that is discovered.
-const NEW: (u8, u64, u64) = (5, 103, 3);
 
-/// Two boards at rest, with the MACs 1 and 2.
-fn two(subnet: u8) -> Panel {
-    let mut panel = ready_on(subnet, &POOL);
-    for mac in [1, 2] {
-        panel.join(2, mac, 100 + mac).unwrap();
-        panel.records.iter_mut().for_each(|record| record.owed = false);
-        panel.coordinator.held = false;
-    }
-    panel
+/// Each of them with boards of either version.
+fn buses() -> impl Iterator<Item = Bus> {
+    OURS.into_iter().flat_map(|ours| [Bus::later(ours), Bus::old(ours)])
 }
 
-/// A frame to the panel on its own subnet.
-fn to(panel: &Panel, source: u8, message_type: u8, payload: &[u8]) -> Draft {
-    let (subnet, payload) = (panel.coordinator.subnet, payload.to_vec());
-    Draft { destination: 255, source, subnet, message_type, payload, ..Draft::default() }
+/// Our subnet and 0 are taken; 2 in a search, and wherever a 1.0 board is awaited or
+/// was discovered.
+fn taken(panel: &Panel, bus: Bus, subnet: u8) -> bool {
+    let phase = &panel.coordinator.phase;
+    let searches = matches!(phase.awaited(), Some((_, Exchange::Search)));
+    let old = bus.version == OLD && (phase.awaited().is_some() || phase.discovers());
+    subnet == bus.ours || subnet == 0 || subnet == 2 && (searches || old)
 }
 
-fn give(panel: &mut Panel, draft: &Draft) -> Answer {
-    panel.frame(&draft.bytes(), &mut [0; 29])
-}
-
-fn ack(panel: &Panel, board: usize) -> Draft {
-    let record = panel.record(board);
-    to(panel, panel.address(board), 0, &ack_payload(record.mac, record.session))
-}
-
-fn numbers() -> Vec<u8> {
-    [NEW.1.to_le_bytes(), NEW.2.to_le_bytes()].concat()
-}
-
-fn discovered(panel: &Panel) -> Draft {
-    to(panel, 0, 0xF9, &[&[NEW.0, 0][..], &numbers()].concat())
-}
-
-fn identified(panel: &Panel) -> Draft {
-    to(panel, 9, 0xFB, &[&[NEW.0][..], &numbers()].concat())
-}
-
-fn addressed(panel: &Panel) -> Draft {
-    to(panel, 9, 0xFA, &[&[9, panel.coordinator.subnet][..], &numbers(), &[1]].concat())
-}
-
-fn listing(ours: u8) -> Panel {
-    let mut panel = two(ours);
-    panel.join(2, 1, 101).unwrap();
-    panel
-}
-
-/// Board 1 asks board 2.
-fn forward_due(ours: u8) -> Panel {
-    let mut panel = two(ours);
-    turn(&mut panel);
-    let request = Draft { method: 3, parameter1: 2, ..to(&panel, 2, 3, &[7]) };
-    assert_eq!(give(&mut panel, &request).unwrap().action, Action::Transmit);
-    assert!(matches!(panel.coordinator.phase, Phase::ForwardDue { .. }));
-    panel
-}
-
-fn return_due(ours: u8) -> Panel {
-    let mut panel = after_turn(forward_due(ours));
-    let response = to(&panel, 5, 131, &[8]);
-    assert_eq!(give(&mut panel, &response).unwrap().action, Action::Transmit);
-    panel
-}
-
-fn search(ours: u8) -> Panel {
-    let mut panel = two(ours);
-    panel.discover(&mut [0; 13]).unwrap();
-    panel
-}
-
-fn identify_due(ours: u8) -> Panel {
-    let mut panel = search(ours);
-    let found = discovered(&panel);
-    assert_eq!(give(&mut panel, &found), rest());
-    panel
-}
-
-fn assign_due(ours: u8) -> Panel {
-    let mut panel = after_turn(identify_due(ours));
-    assert_eq!(panel.quiet(), rest());
-    panel
-}
-
-fn after_turn(mut panel: Panel) -> Panel {
-    turn(&mut panel);
-    panel
-}
-
-/// After an ACK that does not end the wait.
-fn after_ack(mut panel: Panel, draft: &Draft) -> Panel {
-    assert!(matches!(give(&mut panel, draft).unwrap().action, Action::Wait { .. }));
-    panel
-}
-
-/// Every wait, with the frames that it takes.
-fn waits(ours: u8) -> Vec<(Panel, Vec<Draft>)> {
-    let offer = after_turn(two(ours));
-    let delivered = to(&offer, 2, 1, &[4]);
-    let passed_on = Draft { method: 3, parameter1: 2, ..delivered.clone() };
-    let discarded = Draft { method: 3, parameter1: 40, ..delivered.clone() };
-    let list = after_turn(listing(ours));
-    let echo = to(&list, 2, 0x94, &list.node_list());
-    let forward = after_turn(forward_due(ours));
-    let response = to(&forward, 5, 131, &[8]);
-    let forward_acked = after_ack(forward.clone(), &ack(&forward, 2));
-    let returned = after_turn(return_due(ours));
-    let identify = after_turn(identify_due(ours));
-    let holder_ack = to(&identify, 9, 0, &ack_payload(NEW.1, NEW.2));
-    let identify_acked = after_ack(identify.clone(), &holder_ack);
-    let (search, assign) = (search(ours), after_turn(assign_due(ours)));
-    let (node_id, found, settled) =
-        (identified(&identify), discovered(&search), addressed(&assign));
-    vec![
-        (offer.clone(), vec![ack(&offer, 1), delivered, passed_on, discarded]),
-        (list, vec![echo]),
-        (forward.clone(), vec![ack(&forward, 2), response.clone()]),
-        (forward_acked, vec![response]),
-        (returned.clone(), vec![ack(&returned, 1)]),
-        (search, vec![found]),
-        (identify, vec![holder_ack, node_id.clone()]),
-        (identify_acked, vec![node_id]),
-        (assign, vec![settled]),
-    ]
-}
-
-/// At rest, and with something due.
-fn without_a_wait(ours: u8) -> Vec<Panel> {
-    let at_rest = [ready_on(ours, &POOL), two(ours), listing(ours)];
-    let due = [forward_due(ours), return_due(ours), identify_due(ours), assign_due(ours)];
-    at_rest.into_iter().chain(due).collect()
-}
-
-/// Subnets that a panel of this one does not take.
-fn others(ours: u8) -> impl Iterator<Item = u8> {
-    [ours.wrapping_add(1), ours.wrapping_sub(1), ours ^ 0x80, 2, 3, 255]
-        .into_iter()
-        .filter(move |&subnet| subnet != ours && subnet != 0)
+/// Subnets that a panel does not take now.
+fn others(panel: &Panel, bus: Bus) -> Vec<u8> {
+    let ours = bus.ours;
+    let near = [ours.wrapping_add(1), ours.wrapping_sub(1), ours ^ 0x80, 2, 3, 255];
+    near.into_iter().filter(|&subnet| !taken(panel, bus, subnet)).collect()
 }
 
 // ---- what is taken ------------------------------------------------------
 
-/// With our subnet and with 0 a frame is the same to the panel; with any other
-/// it is refused by 24, and nothing changes.
+/// With a subnet that is taken a frame is the same to the panel, whichever it is; with
+/// any other it is refused by 24, and nothing changes.
 #[test]
-fn every_wait_takes_our_subnet_and_0_and_no_other() {
-    for ours in OURS {
-        for (panel, frames) in waits(ours) {
+fn every_wait_takes_our_subnet_0_and_that_of_a_1_0_board_and_no_other() {
+    for bus in buses() {
+        for (panel, frames) in waits(bus) {
             for draft in frames {
                 let (mut expected, mut expected_out) = (panel.clone(), [0; 29]);
                 let answer = expected.frame(&draft.bytes(), &mut expected_out);
-                assert!(answer.is_ok(), "{ours} {draft:?}");
+                assert!(answer.is_ok(), "{bus:?} {draft:?}");
                 for subnet in 0..=255 {
                     let bytes = Draft { subnet, ..draft.clone() }.bytes();
                     let (mut after, mut out) = (panel.clone(), [0; 29]);
-                    if subnet == ours || subnet == 0 {
+                    if taken(&panel, bus, subnet) {
                         assert_eq!(after.frame(&bytes, &mut out), answer);
                         assert_eq!((after, out), (expected.clone(), expected_out));
                     } else {
@@ -191,7 +72,7 @@ fn every_wait_takes_our_subnet_and_0_and_no_other() {
 #[test]
 fn forwards_and_returns_have_our_subnet() {
     for ours in OURS {
-        let mut panel = after_turn(two(ours));
+        let mut panel = after_turn(two(Bus::later(ours)));
         let request = Draft { method: 3, parameter1: 2, subnet: 0, ..to(&panel, 2, 3, &[7]) };
         give(&mut panel, &request).unwrap();
         assert_eq!(frame::read(&turn(&mut panel).2, ours).unwrap().subnet, ours);
@@ -201,30 +82,30 @@ fn forwards_and_returns_have_our_subnet() {
     }
 }
 
-/// Whatever the panel beside it sends to its boards gets 24; what it sends to
-/// all of every subnet is not for a coordinator.
+/// Whatever the panel beside it sends to its boards gets 24, or is not for us where
+/// subnet 2 is taken; what it sends to all of every subnet is not for a coordinator.
 #[test]
 fn what_another_panel_sends_is_refused() {
     let mut sent = Vec::new();
-    for due in without_a_wait(2).iter_mut().skip(1) {
+    for due in without_a_wait(Bus::later(2)).iter_mut().skip(1) {
         sent.push(turn(due).2);
     }
     let mut request = [0; 13];
-    two(2).discover(&mut request).unwrap();
+    two(Bus::later(2)).discover(&mut request).unwrap();
     sent.push(request.to_vec());
     let mut ack = [0; 29];
-    let mut offer = after_turn(two(2));
+    let mut offer = after_turn(two(Bus::later(2)));
     let asked = to(&offer, 2, 1, &[]);
     offer.frame(&asked.bytes(), &mut ack).unwrap();
     sent.push(ack.to_vec());
-    let expected = |bytes: &[u8]| match bytes[2] {
-        0 => Refusal::NotForUs,
-        _ => Refusal::OtherSubnet,
-    };
     assert_eq!(sent.iter().filter(|bytes| bytes[2] == 0).count(), 2);
-    for (mut panel, _) in waits(3) {
-        for bytes in &sent {
-            refused_frame(&mut panel, expected(bytes), bytes);
+    for bus in [Bus::later(3), Bus::old(3)] {
+        for (mut panel, _) in waits(bus) {
+            for bytes in &sent {
+                let heard = taken(&panel, bus, bytes[2]);
+                let number = if heard { Refusal::NotForUs } else { Refusal::OtherSubnet };
+                refused_frame(&mut panel, number, bytes);
+            }
         }
     }
 }
@@ -233,9 +114,9 @@ fn what_another_panel_sends_is_refused() {
 
 #[test]
 fn unfit_state_and_1_to_4_come_before_24() {
-    for ours in OURS {
-        for (panel, frames) in waits(ours) {
-            for subnet in others(ours) {
+    for bus in buses() {
+        for (panel, frames) in waits(bus) {
+            for subnet in others(&panel, bus) {
                 let mut panel = panel.clone();
                 let good = Draft { subnet, ..frames[0].clone() }.bytes();
                 refused_frame(&mut panel, Refusal::OtherSubnet, &good);
@@ -256,36 +137,34 @@ fn unfit_state_and_1_to_4_come_before_24() {
     }
 }
 
-/// The frame is refused with this number on our subnet, and by 24 on others.
-fn comes_after_24(panel: &mut Panel, refusal: Refusal, draft: &Draft) {
-    let ours = panel.coordinator.subnet;
-    for subnet in [ours, 0] {
-        refused_frame(panel, refusal, &Draft { subnet, ..draft.clone() }.bytes());
-    }
-    for subnet in others(ours) {
-        refused_frame(panel, Refusal::OtherSubnet, &Draft { subnet, ..draft.clone() }.bytes());
+/// The frame is refused with this number on the subnets taken, and by 24 on others.
+fn comes_after_24(panel: &mut Panel, bus: Bus, refusal: Refusal, draft: &Draft) {
+    for subnet in [bus.ours, 0, 2].into_iter().chain(others(panel, bus)) {
+        let heard = taken(panel, bus, subnet);
+        let number = if heard { refusal } else { Refusal::OtherSubnet };
+        refused_frame(panel, number, &Draft { subnet, ..draft.clone() }.bytes());
     }
 }
 
 #[test]
 fn numbers_5_6_7_and_23_come_after_24_in_every_wait() {
-    for ours in OURS {
-        for (mut panel, frames) in waits(ours) {
+    for bus in buses() {
+        for (mut panel, frames) in waits(bus) {
             for draft in frames {
                 for destination in [0, 2, 254] {
                     let foreign = Draft { destination, ..draft.clone() };
-                    comes_after_24(&mut panel, Refusal::NotForUs, &foreign);
+                    comes_after_24(&mut panel, bus, Refusal::NotForUs, &foreign);
                 }
                 for source in [3, 77, 255] {
                     let other = Draft { source, ..draft.clone() };
-                    comes_after_24(&mut panel, Refusal::NotAwaited, &other);
+                    comes_after_24(&mut panel, bus, Refusal::NotAwaited, &other);
                 }
                 let untaken = Draft { message_type: 128, ..draft.clone() };
-                comes_after_24(&mut panel, Refusal::UnexpectedType, &untaken);
+                comes_after_24(&mut panel, bus, Refusal::UnexpectedType, &untaken);
                 if !panel.coordinator.phase.discovers() {
                     for message_type in 0xF9..=0xFB {
                         let stray = Draft { message_type, ..draft.clone() };
-                        comes_after_24(&mut panel, Refusal::NotDiscovering, &stray);
+                        comes_after_24(&mut panel, bus, Refusal::NotDiscovering, &stray);
                     }
                 }
             }
@@ -295,22 +174,22 @@ fn numbers_5_6_7_and_23_come_after_24_in_every_wait() {
 
 #[test]
 fn numbers_8_9_and_11_come_after_24() {
-    for ours in OURS {
-        for (mut panel, frames) in waits(ours) {
+    for bus in buses() {
+        for (mut panel, frames) in waits(bus) {
             let exchange = panel.coordinator.phase.awaited().unwrap().1;
             for draft in frames {
                 if matches!(exchange, Exchange::List | Exchange::Assign { .. }) {
                     let other = Draft { payload: vec![1], ..draft.clone() };
-                    comes_after_24(&mut panel, Refusal::BadEcho, &other);
+                    comes_after_24(&mut panel, bus, Refusal::BadEcho, &other);
                 }
                 if (1..=127).contains(&draft.message_type) {
                     let unknown = Draft { method: 4, ..draft.clone() };
-                    comes_after_24(&mut panel, Refusal::BadMethod, &unknown);
+                    comes_after_24(&mut panel, bus, Refusal::BadMethod, &unknown);
                 }
                 // the room lent is one byte short of an ACK
                 let acknowledged = draft.message_type != 0 && exchange != Exchange::Search;
                 if acknowledged {
-                    comes_after_24(&mut panel, Refusal::NoRoom, &draft);
+                    comes_after_24(&mut panel, bus, Refusal::NoRoom, &draft);
                 }
             }
         }
@@ -319,15 +198,15 @@ fn numbers_8_9_and_11_come_after_24() {
 
 #[test]
 fn without_a_wait_24_comes_before_5_23_and_6() {
-    for ours in OURS {
-        for mut panel in without_a_wait(ours) {
+    for bus in buses() {
+        for mut panel in without_a_wait(bus) {
             let stray = to(&panel, 2, 3, &[7]);
-            comes_after_24(&mut panel, Refusal::NotAwaited, &stray);
+            comes_after_24(&mut panel, bus, Refusal::NotAwaited, &stray);
             let foreign = Draft { destination: 9, ..stray.clone() };
-            comes_after_24(&mut panel, Refusal::NotForUs, &foreign);
+            comes_after_24(&mut panel, bus, Refusal::NotForUs, &foreign);
             let discovers = panel.coordinator.phase.discovers();
             let number = if discovers { Refusal::NotAwaited } else { Refusal::NotDiscovering };
-            comes_after_24(&mut panel, number, &Draft { message_type: 0xFB, ..stray });
+            comes_after_24(&mut panel, bus, number, &Draft { message_type: 0xFB, ..stray });
         }
     }
 }
@@ -344,12 +223,12 @@ fn before_a_setup_it_is_22() {
 /// The same board of the other system answers each time.
 #[test]
 fn a_board_that_only_the_other_system_answers_for_is_dropped_at_the_third() {
-    for ours in OURS {
-        let mut panel = two(ours);
+    for bus in buses() {
+        let mut panel = two(bus);
         panel.records[1] = Default::default();
         for dropped in [0, 0, 1] {
             turn(&mut panel);
-            for subnet in others(ours) {
+            for subnet in others(&panel, bus) {
                 let bytes = Draft { subnet, ..ack(&panel, 1) }.bytes();
                 refused_frame(&mut panel, Refusal::OtherSubnet, &bytes);
             }
@@ -361,12 +240,12 @@ fn a_board_that_only_the_other_system_answers_for_is_dropped_at_the_third() {
 /// Two misses stay two until the board itself answers in the same wait.
 #[test]
 fn misses_are_cleared_by_our_board_alone() {
-    for ours in OURS {
-        let mut panel = two(ours);
+    for bus in buses() {
+        let mut panel = two(bus);
         panel.records[0].misses = 2;
         turn(&mut panel);
         let answer = ack(&panel, 1);
-        for subnet in others(ours) {
+        for subnet in others(&panel, bus) {
             let bytes = Draft { subnet, ..answer.clone() }.bytes();
             refused_frame(&mut panel, Refusal::OtherSubnet, &bytes);
             assert_eq!(panel.record(1).misses, 2);
@@ -380,7 +259,7 @@ fn misses_are_cleared_by_our_board_alone() {
 /// In every wait, an exchange's too, quiet does what it would have done.
 #[test]
 fn quiet_after_24_is_quiet() {
-    for (panel, frames) in waits(3) {
+    for (panel, frames) in waits(Bus::later(3)).into_iter().chain(waits(Bus::old(3))) {
         let mut plain = panel.clone();
         let answer = plain.quiet();
         for draft in frames {
@@ -394,11 +273,14 @@ fn quiet_after_24_is_quiet() {
 
 // ---- whole series -------------------------------------------------------
 
-/// The line with another subnet in its frame, and check bytes that fit.
+/// The line with another subnet in its frame, not that of 1.0 boards either, and check
+/// bytes that fit.
 fn of_another_subnet(line: &str, ours: u8) -> Option<String> {
     let (start, digits) = line.rsplit_once(' ')?;
     let mut bytes = language::pairs(digits).filter(|bytes| bytes.len() >= 12)?;
-    bytes[2] = others(ours).next()?;
+    bytes[2] = [ours.wrapping_add(1), 255, 254]
+        .into_iter()
+        .find(|subnet| ![ours, 0, 2].contains(subnet))?;
     let body = bytes.len() - 2;
     let tail = checksum::check_bytes(&bytes[..body]);
     bytes[body..].copy_from_slice(&tail);

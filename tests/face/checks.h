@@ -58,7 +58,15 @@ uint64_t step(uint8_t event, size_t count);
 /* The five steps on records that are not fit: 22, and nothing is changed. */
 void hold_unfit(void);
 
-/* ---- records that are fit: five addresses, boards of one type at positions 1 to 3; what is not lent is scattered */
+/* The five steps on records that are fit: none is 22. The records are then as they were. */
+void hold_fit(void);
+
+/* A join or a drop: one record is replaced, the list is owed to every board, and all indexes are right. The ACK, where
+   one is written, has the index of the record. Since the records were last kept nothing else is changed. */
+void hold_left(uint64_t answer, uint64_t expected, size_t position, struct nadrelgos_node node);
+
+/* ---- records that are fit: five addresses, boards of one type at positions 1 to 3, the second a 1.0 board; what is
+   not lent is scattered */
 
 enum { OWN_MAC = 9, OWN_SESSION = 8, SUBNET = 3, INTERNAL = 21, BOARDS = 3, FREE = 4, K = 5 };
 
@@ -74,5 +82,16 @@ uint64_t set_up(size_t count);
  * is kept, and a board found, as the stage needs it.
  */
 void make_fit(uint8_t stage);
+
+/* The same with forty addresses and boards of these types, 0 where a position is free, and versions. Board and
+   requester are the two lowest that are listed. */
+void make_forty(uint8_t stage, const uint8_t kinds[NADRELGOS_NODES], const uint8_t versions[NADRELGOS_NODES]);
+uint64_t mac_at(size_t position);
+
+/* The subnet of boards of a version. */
+uint8_t subnet_of(uint8_t version);
+
+/* Into `received`, the frame by which a board joins in the exchange: its ID in identify, or Set Address echoed. */
+size_t write_joining(uint8_t stage, size_t position, struct nadrelgos_found who);
 
 #endif

@@ -1,6 +1,6 @@
 /*
  * Frames of any kind in the exchange by which a board joins. What each is answered, and what it leaves, is foretold
- * here from the rules (the requests C-11 and C-14; API Reference, 6.6 to 6.8), and the call is held to it.
+ * here from the rules (the requests C-11, C-14 and C-15; API Reference, 6.6 to 6.8), and the call is held to it.
  */
 #include "frames.h"
 
@@ -47,7 +47,7 @@ static size_t place_for(struct nadrelgos_found who) {
 
 static void end_exchange(void) {
     then.coordinator.stand = (struct nadrelgos_stand){0, 0, 0};
-    then.coordinator.found = (struct nadrelgos_found){0, 0, 0};
+    then.coordinator.found = (struct nadrelgos_found){0, 0, 0, 0};
 }
 
 /* A listed board is heard where the MAC is its own. */
@@ -59,7 +59,7 @@ static void hear(size_t position, uint64_t mac) {
 /* The board joins, listed before or not, as what it says it is; the list is owed to all, the indexes are those of the
    new types, and joins are held. */
 static void join(size_t position, struct nadrelgos_found who) {
-    then.nodes[position - 1] = (struct nadrelgos_node){who.kind, who.mac, who.session, 0, 1, 0};
+    then.nodes[position - 1] = (struct nadrelgos_node){who.kind, who.mac, who.session, 0, 1, 0, who.version};
     for (size_t p = 1; p <= K; p++)
         if (then.nodes[p - 1].kind != 0) then.nodes[p - 1].owed = 1;
     count_indexes(then.nodes);
@@ -78,10 +78,12 @@ static uint64_t finish(size_t stake, struct nadrelgos_found who) {
     return transmits(joins ? stake : 0);
 }
 
-/* Search takes a Node Discovery Response: Get Node ID is due, or the exchange breaks off. */
+/* Search takes a Node Discovery Response: Get Node ID is due, or the exchange breaks off. A 1.0 board says so by a bit
+   of its packet number. */
 static uint64_t in_search(uint8_t type, const uint8_t *payload, size_t length) {
     if (type != FOUND || length != FOUND_LENGTH) return NADRELGOS_UNEXPECTED_TYPE;
-    struct nadrelgos_found who = {payload[0], wire_word(payload + 2), wire_word(payload + 10)};
+    uint8_t version = received[AT_PACKET] & OLD_BIT ? 1 : 2;
+    struct nadrelgos_found who = {payload[0], version, wire_word(payload + 2), wire_word(payload + 10)};
     size_t place = place_for(who);
     end_exchange();
     if (place == 0) return rests();
@@ -90,7 +92,7 @@ static uint64_t in_search(uint8_t type, const uint8_t *payload, size_t length) {
     return rests();
 }
 
-/* Identify takes an ACK, once, and the ID. */
+/* Identify takes an ACK, once, and the ID: of the version of the board found, whose subnet was asked. */
 static uint64_t in_identify(uint8_t type, const uint8_t *payload, size_t length, size_t stake, bool acked) {
     if (!acked && type == TYPE_R2R && length == R2R_LENGTH && payload[0] == CODE_ACK) {
         then.coordinator.stand = (struct nadrelgos_stand){PRESENT, stake, 0};
@@ -98,7 +100,8 @@ static uint64_t in_identify(uint8_t type, const uint8_t *payload, size_t length,
         return waits_on(stake);
     }
     if (type != IDENTIFIED || length != ID_LENGTH) return NADRELGOS_UNEXPECTED_TYPE;
-    struct nadrelgos_found who = {payload[0], wire_word(payload + 1), wire_word(payload + 9)};
+    uint8_t version = lent.coordinator.found.version;
+    struct nadrelgos_found who = {payload[0], version, wire_word(payload + 1), wire_word(payload + 9)};
     return finish(stake, who);
 }
 
@@ -106,7 +109,7 @@ static uint64_t in_identify(uint8_t type, const uint8_t *payload, size_t length,
 static void write_assignment(uint8_t *payload) {
     const struct nadrelgos_coordinator *c = &lent.coordinator;
     payload[0] = pool[c->stand.board - 1];
-    payload[1] = SUBNET;
+    payload[1] = subnet_of(c->found.version);
     wire_put_word(payload + 2, c->found.mac);
     wire_put_word(payload + 10, c->found.session);
     payload[18] = 1;
@@ -134,6 +137,21 @@ static uint8_t awaited(uint8_t stage, size_t stake) {
     return stage == SEARCH ? 0 : pool[stake - 1];
 }
 
+/* Whether the panel waits for a listed board in this stage. */
+static bool awaits_board(uint8_t stage) {
+    return 1 <= stage && stage <= 5;
+}
+
+/* Whether a frame of this subnet is read in this stage: ours and 0 always; that of 1.0 boards in a wait for one, in
+   search, and from then on where the board found is one. */
+static bool is_read(uint8_t stage, uint8_t subnet) {
+    const struct nadrelgos_coordinator *c = &lent.coordinator;
+    if (subnet == SUBNET || subnet == WIRE_ALL) return true;
+    if (subnet != OLD_SUBNET) return false;
+    if (stage >= SEARCH) return stage == SEARCH || c->found.version == 1;
+    return awaits_board(stage) && lent.nodes[c->stand.board - 1].version == 1;
+}
+
 /* The answer to the frame in the exchange; what it leaves is then in `then`. */
 static uint64_t foretell(uint8_t stage, size_t stake) {
     uint64_t refusal = unreadable();
@@ -142,7 +160,7 @@ static uint64_t foretell(uint8_t stage, size_t stake) {
     size_t length = received[AT_LENGTH];
     memcpy(&then, &lent, sizeof then);
     if (refusal) return refusal;
-    if (received[AT_SUBNET] != SUBNET && received[AT_SUBNET] != WIRE_ALL) return NADRELGOS_OTHER_SUBNET;
+    if (!is_read(stage, received[AT_SUBNET])) return NADRELGOS_OTHER_SUBNET;
     if (received[AT_DESTINATION] != WIRE_PANEL) return NADRELGOS_NOT_FOR_US;
     if (received[AT_SOURCE] != awaited(stage, stake)) return NADRELGOS_NOT_AWAITED;
     switch (stage) {
@@ -190,10 +208,14 @@ static size_t draw_formed(uint8_t *payload, uint8_t *type) {
     }
 }
 
-/* Mostly our subnet, or everybody's; else any. */
+/* Mostly our subnet, that of 1.0 boards, or everybody's; else any. */
 static uint8_t draw_subnet(void) {
-    if (!draw_below(8)) return (uint8_t)draw_below(256);
-    return draw_below(2) ? SUBNET : WIRE_ALL;
+    static const uint8_t some[] = {SUBNET, OLD_SUBNET, WIRE_ALL};
+    return draw_below(8) ? some[draw_below(sizeof some)] : (uint8_t)draw_below(256);
+}
+
+static uint8_t draw_version(void) {
+    return (uint8_t)(1 + draw_below(2));
 }
 
 /* A good frame to the panel, mostly one that the exchange knows, from mostly the source that is awaited. */
@@ -230,9 +252,11 @@ static uint64_t call(void) {
     return nadrelgos_frame(&lent.coordinator, lent.nodes, received, count, lent.out, room);
 }
 
-/* What is written is an ACK to the position at stake, with the index that its record then has. */
+/* What is written is an ACK to the position at stake, with the index that its record then has, in the subnet of the
+   board that was found: whoever answered was asked there. */
 static bool is_ack_written(size_t stake) {
-    return wire_good(lent.out, ACK_BYTES) && lent.out[AT_PARAMETER_2] == then.nodes[stake - 1].index;
+    return wire_good(lent.out, ACK_BYTES) && lent.out[AT_PARAMETER_2] == then.nodes[stake - 1].index &&
+           lent.out[AT_SUBNET] == subnet_of(before.coordinator.found.version);
 }
 
 static void hold_as_foretold(uint64_t foretold, size_t stake) {
@@ -254,7 +278,9 @@ void frames_in_the_exchange(void) {
             make_fit(stage);
             size_t stake = draw_below(2) ? FREE : 1 + draw_below(K); /* listed or not */
             lent.coordinator.stand.board = stake;
+            for (size_t i = 0; i < BOARDS; i++) lent.nodes[i].version = draw_version();
             if (stage == SEARCH) scatter(&lent.coordinator.found, sizeof lent.coordinator.found);
+            if (stage > SEARCH) lent.coordinator.found.version = draw_version();
             if (stage > SEARCH && draw_below(2)) lent.coordinator.found.mac = 100 + draw_below(BOARDS);
             draw_room();
             if (draw_below(8))
@@ -292,6 +318,15 @@ void frames_out_of_the_exchange(void) {
     end();
 }
 
+/* The list that the board at position 1 was sent: boards of type 5 at positions 1 to 3, or, for a 1.0 board, that type
+   once in 16 bytes. Its length. */
+static size_t write_list(uint8_t *payload) {
+    bool is_old = lent.nodes[0].version == 1;
+    const uint8_t list[OLD_LIST] = {INTERNAL, 5, is_old ? 0 : 5, is_old ? 0 : 5};
+    memcpy(payload, list, sizeof list);
+    return is_old ? OLD_LIST : 1 + BOARDS;
+}
+
 /* A frame that a stage which waits takes, in this subnet: mostly the ACK of the board awaited, after a list its echo, in
    the exchange the response. */
 static void make_taken(uint8_t stage, uint8_t subnet) {
@@ -301,9 +336,7 @@ static void make_taken(uint8_t stage, uint8_t subnet) {
     wire_put_word(payload + 1, 100);
     wire_put_word(payload + 9, 1);
     if (stage == 2) {
-        const uint8_t list[] = {INTERNAL, 5, 5, 5};
-        memcpy(payload, list, sizeof list);
-        type = TYPE_LIST + TYPE_RESPONSE, length = sizeof list;
+        type = TYPE_LIST + TYPE_RESPONSE, length = write_list(payload);
     } else if (stage == SEARCH) {
         payload[0] = 6;
         type = FOUND, length = FOUND_LENGTH;
@@ -321,33 +354,43 @@ static void make_taken(uint8_t stage, uint8_t subnet) {
 
 /* Whether the panel waits in this stage; in the others it rests, or something is due. */
 static bool waits_in(uint8_t stage) {
-    return (stage >= 1 && stage <= 5) || (stage >= SEARCH && stage != IDENTIFY_DUE && stage != ASSIGN_DUE);
+    return awaits_board(stage) || (stage >= SEARCH && stage != IDENTIFY_DUE && stage != ASSIGN_DUE);
 }
 
-/* The same frame in every subnet: in ours and in 0 it gets one answer, no refusal where the stage waits; in every other
-   it gets 24 and leaves all as it was, and 4 where it is damaged too. */
+/* The stage, where the board awaited, or the one found, is of this version, and the frame. */
+static void make_in_subnet(uint8_t stage, uint8_t version, uint8_t subnet) {
+    make_fit(stage);
+    lent.nodes[0].version = version;
+    if (stage > SEARCH) lent.coordinator.found.version = version;
+    make_taken(stage, subnet);
+}
+
+/* The frame in one subnet: where that is read it has this answer; else it gets 24 and leaves all as it was, and 4 where
+   it is damaged too. */
+static void hold_in_subnet(uint8_t stage, uint8_t version, uint8_t subnet, uint64_t taken) {
+    make_in_subnet(stage, version, subnet);
+    bool is_taken = is_read(stage, subnet);
+    keep();
+    uint64_t answer = call();
+    if (is_taken)
+        hold(answer == taken, answer);
+    else
+        hold_refused(answer, NADRELGOS_OTHER_SUBNET, NADRELGOS_NODES);
+    make_in_subnet(stage, version, subnet);
+    received[AT_TYPE] ^= 1;
+    keep();
+    hold_refused(call(), NADRELGOS_BAD_CHECKSUM, NADRELGOS_NODES);
+}
+
+/* The same frame in every subnet: in those that are read it gets one answer, no refusal where the stage waits. */
 void frames_of_every_subnet(void) {
-    begin("a frame in every subnet and every stage");
+    begin("a frame in every subnet and every stage, of boards and finds of either version");
     for (uint8_t stage = 0; stage < STAGES; stage++) {
-        make_fit(stage);
-        make_taken(stage, SUBNET);
-        uint64_t taken = call();
-        hold((nadrelgos_refusal(taken) == NADRELGOS_ACCEPTED) == waits_in(stage), taken);
-        for (unsigned subnet = 0; subnet < 256; subnet++) {
-            bool is_ours = subnet == SUBNET || subnet == WIRE_ALL;
-            make_fit(stage);
-            make_taken(stage, (uint8_t)subnet);
-            keep();
-            uint64_t answer = call();
-            if (is_ours)
-                hold(answer == taken, answer);
-            else
-                hold_refused(answer, NADRELGOS_OTHER_SUBNET, NADRELGOS_NODES);
-            make_fit(stage);
-            make_taken(stage, (uint8_t)subnet);
-            received[AT_TYPE] ^= 1;
-            keep();
-            hold_refused(call(), NADRELGOS_BAD_CHECKSUM, NADRELGOS_NODES);
+        for (uint8_t version = 1; version <= 2; version++) {
+            make_in_subnet(stage, version, SUBNET);
+            uint64_t taken = call();
+            hold((nadrelgos_refusal(taken) == NADRELGOS_ACCEPTED) == waits_in(stage), taken);
+            for (unsigned subnet = 0; subnet < 256; subnet++) hold_in_subnet(stage, version, (uint8_t)subnet, taken);
         }
     }
     end();

@@ -28,25 +28,14 @@ static bool is_listed(struct table table, size_t position) {
     return table.listed >> (position - 1) & 1;
 }
 
-static uint64_t mac_at(size_t position) {
-    return 100 + position;
-}
-
-/* Fit records in a stage, which names listed boards where it names any. */
+/* Fit records in a stage, which names listed boards where it names any; of either version. */
 static void make_table(struct table table, uint8_t stage) {
-    size_t named[] = {1, 3};
-    make_fit(stage);
+    uint8_t types[NADRELGOS_NODES], versions[NADRELGOS_NODES];
     for (size_t p = 1; p <= NADRELGOS_NODES; p++) {
-        uint8_t kind = is_listed(table, p) ? (uint8_t)(2 + p % table.kinds) : 0;
-        lent.coordinator.setup.pool[p - 1] = (uint8_t)(15 + p);
-        memset(&lent.nodes[p - 1], 0, sizeof *lent.nodes);
-        if (kind) lent.nodes[p - 1] = (struct nadrelgos_node){kind, mac_at(p), 1, 2, 0, 0};
+        types[p - 1] = is_listed(table, p) ? (uint8_t)(2 + p % table.kinds) : 0;
+        versions[p - 1] = p % 4 < 2 ? 1 : 2;
     }
-    count_indexes(lent.nodes);
-    if (!is_listed(table, named[0])) named[0] = 2, named[1] = 4;
-    lent.coordinator.setup.k = NADRELGOS_NODES;
-    lent.coordinator.stand.board = named[0];
-    lent.coordinator.stand.requester = named[1];
+    make_forty(stage, types, versions);
 }
 
 /* ---- every wrong index: 22, and nothing is changed */
@@ -120,60 +109,31 @@ enum { KINDS = sizeof kinds, SESSION = 9, ACK_BYTES = 29 };
 enum way { TOLD, IDENTIFIED, ASSIGNED, WAYS };
 static const uint8_t stages[WAYS] = {0, IDENTIFY, ASSIGN};
 
-/* The records that should be left: one is replaced, and the list is owed to every board. An ACK has its index. */
-static void hold_left(uint64_t answer, uint64_t expected, size_t position, struct nadrelgos_node node) {
-    size_t written = nadrelgos_written(expected);
-    before.nodes[position - 1] = node;
-    for (size_t i = 0; i < NADRELGOS_NODES; i++)
-        if (before.nodes[i].kind != 0) before.nodes[i].owed = 1;
-    count_indexes(before.nodes);
-    hold(answer == expected && same_nodes(lent.nodes, before.nodes, NADRELGOS_NODES) &&
-             past_untouched(NADRELGOS_NODES) &&
-             memcmp(lent.out + written, before.out + written, sizeof lent.out - written) == 0 &&
-             (written == 0 || lent.out[AT_PARAMETER_2] == before.nodes[position - 1].index),
-         answer);
-}
-
-/* The frame by which the board joins in the exchange: its ID, or Set Address echoed. */
-static size_t write_answer(enum way way, size_t position, struct nadrelgos_found who) {
-    uint8_t payload[ASSIGN_LENGTH] = {0};
-    struct sender from = {lent.coordinator.setup.pool[position - 1], SUBNET, who.kind};
-    if (way == IDENTIFIED) {
-        wire_put_id(payload, who.kind, who.mac, who.session);
-        return wire_frame(received, from, TYPE_IDENTIFY + TYPE_RESPONSE, 0, 0, 0, payload, ID_LENGTH);
-    }
-    payload[ASSIGN_ADDRESS] = from.address;
-    payload[ASSIGN_SUBNET] = SUBNET;
-    wire_put_word(payload + ASSIGN_MAC, who.mac);
-    wire_put_word(payload + ASSIGN_SESSION, who.session);
-    payload[ASSIGN_WRITE] = 1;
-    return wire_frame(received, from, TYPE_ASSIGN + TYPE_RESPONSE, 0, 0, 0, payload, ASSIGN_LENGTH);
-}
-
 static void hold_join(struct table table, enum way way, size_t position, struct nadrelgos_found who) {
     struct nadrelgos_coordinator *c = &lent.coordinator;
     uint64_t answer, expected = (uint64_t)position << 32;
     make_table(table, stages[way]);
     if (way == TOLD) {
         keep();
-        answer = nadrelgos_join(c, lent.nodes, who.kind, who.mac, who.session);
+        answer = nadrelgos_join(c, lent.nodes, who.kind, who.mac, who.session, who.version);
         expected |= (uint64_t)NADRELGOS_REST << 8;
     } else {
         c->stand.board = position;
         c->found = who;
-        size_t count = write_answer(way, position, who);
+        size_t count = write_joining(stages[way], position, who);
         keep();
         answer = nadrelgos_frame(c, lent.nodes, received, count, lent.out, sizeof lent.out);
         expected |= (uint64_t)NADRELGOS_TRANSMIT << 8 | (uint64_t)ACK_BYTES << 48;
     }
-    hold_left(answer, expected, position, (struct nadrelgos_node){who.kind, who.mac, who.session, 0, 1, 0});
+    hold_left(answer, expected, position,
+              (struct nadrelgos_node){who.kind, who.mac, who.session, 0, 1, 0, who.version});
 }
 
-/* In every way and as every type. */
+/* In every way and as every type, by turns of either version. */
 static void hold_joins(struct table table, size_t position, uint64_t mac) {
     for (enum way way = TOLD; way < WAYS; way++)
         for (size_t i = 0; i < KINDS; i++)
-            hold_join(table, way, position, (struct nadrelgos_found){kinds[i], mac, SESSION});
+            hold_join(table, way, position, (struct nadrelgos_found){kinds[i], i % 2 ? 1 : 2, mac, SESSION});
 }
 
 static void hold_drop(struct table table, size_t position) {
@@ -182,7 +142,7 @@ static void hold_drop(struct table table, size_t position) {
     keep();
     uint64_t answer = nadrelgos_quiet(&lent.coordinator, lent.nodes);
     hold_left(answer, (uint64_t)NADRELGOS_REST << 8 | (uint64_t)position << 40, position,
-              (struct nadrelgos_node){0, 0, 0, 0, 0, 0});
+              (struct nadrelgos_node){0, 0, 0, 0, 0, 0, 0});
 }
 
 void keeps_indexes(void) {
@@ -239,7 +199,7 @@ static void hold_counted(struct table table, size_t position, bool lists) {
     make_table(table, 0);
     keep();
     for (size_t i = 0; i < NADRELGOS_NODES; i++) scatter(&lent.nodes[i].index, 1);
-    uint64_t answer = lists ? nadrelgos_list(lent.nodes, NADRELGOS_NODES, position, 2, 7, 1)
+    uint64_t answer = lists ? nadrelgos_list(lent.nodes, NADRELGOS_NODES, position, 2, 7, 1, 2)
                             : nadrelgos_clear(lent.nodes, NADRELGOS_NODES, position);
     hold(answer == (uint64_t)NADRELGOS_REST << 8 && unchanged(NADRELGOS_NODES), answer);
 }

@@ -1,10 +1,11 @@
 /*
  * Odd inputs through include/nadrelgos.h: records that are not fit, any frames in the exchange by which a board joins
- * (frames.c), every wrong index (indexes.c), texts and faults of every form (texts.c), messages inside messages of
- * every form (inside.c), shared data in images of every kind (shared.c), counts of records other than forty, event
- * numbers that are none, a setup over whatever stood there, changes and positions that are none. What each call answers
- * and leaves is known: records that were lent are held to it field by field, and all else byte by byte. The calls are
- * the same each time. A line is printed for each check, and the exit status is 1 where one fails.
+ * (frames.c), every wrong index (indexes.c), every version (versions.c), more types than may be beside a 1.0 board
+ * (types.c), texts and faults of every form (texts.c), messages inside messages of every form (inside.c), shared data
+ * in images of every kind (shared.c), counts of records other than forty, event numbers that are none, a setup over
+ * whatever stood there, changes and positions that are none. What each call answers and leaves is known: records that
+ * were lent are held to it field by field, and all else byte by byte. The calls are the same each time. A line is
+ * printed for each check, and the exit status is 1 where one fails.
  */
 #include "checks.h"
 #include "frames.h"
@@ -12,6 +13,8 @@
 #include "inside.h"
 #include "shared.h"
 #include "texts.h"
+#include "types.h"
+#include "versions.h"
 
 #include <string.h>
 
@@ -24,9 +27,10 @@ enum change { LIST, CLEAR, MARK };
 enum { AMENDED = 240 }; /* rounds of changes, as many of each */
 enum { COMMON = 2 };    /* the type of many boards there */
 
-static uint64_t amend(enum change change, size_t count, size_t position, uint8_t kind, uint64_t mac, uint64_t session) {
+static uint64_t amend(enum change change, size_t count, size_t position, uint8_t kind, uint64_t mac, uint64_t session,
+                      uint8_t version) {
     switch (change) {
-    case LIST: return nadrelgos_list(lent.nodes, count, position, kind, mac, session);
+    case LIST: return nadrelgos_list(lent.nodes, count, position, kind, mac, session, version);
     case CLEAR: return nadrelgos_clear(lent.nodes, count, position);
     default: return nadrelgos_mark(lent.nodes, count, position);
     }
@@ -94,14 +98,21 @@ static const struct spoil anywhere[] = {
     SPOIL(nodes[2].owed, 2),
     SPOIL(nodes[2].index, 1), /* that of position 2, whose type it has */
     SPOIL(nodes[1].kind, 6),  /* as this type it has another index, and so has position 3 */
+    SPOIL(nodes[2].version, 0),
+    SPOIL(nodes[2].version, 3),
+    SPOIL(nodes[1].version, 0),
+    SPOIL(nodes[1].version, 255),
     SPOIL(nodes[FREE - 1].kind, 5),
     SPOIL(nodes[FREE - 1].mac, 7),
     SPOIL(nodes[FREE - 1].session, 1),
     SPOIL(nodes[FREE - 1].misses, 1),
     SPOIL(nodes[FREE - 1].owed, 1),
     SPOIL(nodes[FREE - 1].index, 1),
+    SPOIL(nodes[FREE - 1].version, 1),
+    SPOIL(nodes[FREE - 1].version, 2),
     SPOIL(nodes[39].session, 1),
     SPOIL(nodes[39].index, 36), /* how many free positions are lower */
+    SPOIL(nodes[39].version, 2),
 };
 
 /* where a board is named: stages 1 to 7 */
@@ -139,6 +150,9 @@ static const struct spoil with_stake[] = {
 static const struct spoil with_found[] = {
     SPOIL(coordinator.found.kind, 0),
     SPOIL(coordinator.found.kind, 165),
+    SPOIL(coordinator.found.version, 0),
+    SPOIL(coordinator.found.version, 3),
+    SPOIL(coordinator.found.version, 255),
     SPOIL(coordinator.found.mac, 0),
     SPOIL(coordinator.found.mac, NADRELGOS_MAC_MAX + 1),
     SPOIL(coordinator.found.mac, UINT64_MAX),
@@ -247,7 +261,7 @@ static void hold_count_refused(size_t count) {
     keep();
     for (enum change change = LIST; change <= MARK; change++)
         for (size_t i = 0; i < sizeof positions / sizeof *positions; i++)
-            hold_refused(amend(change, count, positions[i], 5, 7, 1), NADRELGOS_STATE_UNFIT, count);
+            hold_refused(amend(change, count, positions[i], 5, 7, 1, 2), NADRELGOS_STATE_UNFIT, count);
 }
 
 static void refuses_other_counts(void) {
@@ -321,10 +335,10 @@ static void refuses_setup_over_garbage(void) {
 
 /* The record at the position of a change, its index not counted yet. */
 static struct nadrelgos_node amended(struct nadrelgos_node node, enum change change, uint8_t kind, uint64_t mac,
-                                     uint64_t session) {
+                                     uint64_t session, uint8_t version) {
     switch (change) {
-    case LIST: return (struct nadrelgos_node){kind, mac, session, 0, 0, 0};
-    case CLEAR: return (struct nadrelgos_node){0, 0, 0, 0, 0, 0};
+    case LIST: return (struct nadrelgos_node){kind, mac, session, 0, 0, 0, version == 1 ? 1 : 2};
+    case CLEAR: return (struct nadrelgos_node){0, 0, 0, 0, 0, 0, 0};
     default:
         if (node.kind != 0) node.owed = 1;
         return node;
@@ -347,15 +361,15 @@ static void scatter_table(void) {
 /* A change, whatever the indexes were: list and clear count all of them, wherever the position is, and mark none. */
 static void hold_amended(enum change change, size_t position) {
     static struct nadrelgos_node expected[NADRELGOS_NODES];
-    uint8_t kind = draw_kind();
+    uint8_t kind = draw_kind(), version = (uint8_t)((draw() >> 32) % 4);
     uint64_t mac = draw(), session = draw();
     for (size_t i = 0; i < NADRELGOS_NODES; i++) scatter(&lent.nodes[i].index, 1);
     keep();
     memcpy(expected, lent.nodes, sizeof expected);
     if (1 <= position && position <= NADRELGOS_NODES)
-        expected[position - 1] = amended(expected[position - 1], change, kind, mac, session);
+        expected[position - 1] = amended(expected[position - 1], change, kind, mac, session, version);
     if (change != MARK) count_indexes(expected);
-    uint64_t answer = amend(change, NADRELGOS_NODES, position, kind, mac, session);
+    uint64_t answer = amend(change, NADRELGOS_NODES, position, kind, mac, session, version);
     hold(answer == rest && same_nodes(lent.nodes, expected, NADRELGOS_NODES) && others_untouched(NADRELGOS_NODES),
          answer);
 }
@@ -381,7 +395,8 @@ static void amends_nobody(void) {
     end();
 }
 
-int main(void) {
+/* The panel's records and steps. */
+static void try_the_panel(void) {
     refuses_garbage();
     refuses_one_wrong_field();
     takes_fit_records();
@@ -395,11 +410,32 @@ int main(void) {
     refuses_setup_over_garbage();
     amends_as_defined();
     amends_nobody();
+}
+
+static void try_the_indexes(void) {
     refuses_wrong_indexes();
     takes_right_indexes();
     keeps_indexes();
     sends_indexes();
     counts_indexes();
+}
+
+static void try_the_versions(void) {
+    refuses_wrong_versions();
+    refuses_wrong_versions_found();
+    joins_every_version();
+    asks_a_join_alone();
+    lists_every_version();
+    sends_in_each_subnet();
+    refuses_too_many_types();
+    joins_up_to_fifteen_types();
+    finds_up_to_fifteen_types();
+    lists_types_condensed();
+    takes_no_other_list();
+}
+
+/* Texts and faults, messages inside messages, shared data. */
+static void try_the_payloads(void) {
     reads_every_length();
     reads_every_byte();
     reads_any_bytes();
@@ -423,5 +459,12 @@ int main(void) {
     answers_into_every_room();
     stores_one_after_another();
     shares_any_bytes();
+}
+
+int main(void) {
+    try_the_panel();
+    try_the_indexes();
+    try_the_versions();
+    try_the_payloads();
     return some_failed();
 }

@@ -4,7 +4,8 @@
 
 static bool same_node(const struct nadrelgos_node *one, const struct nadrelgos_node *other) {
     return one->kind == other->kind && one->mac == other->mac && one->session == other->session &&
-           one->misses == other->misses && one->owed == other->owed && one->index == other->index;
+           one->misses == other->misses && one->owed == other->owed && one->index == other->index &&
+           one->version == other->version;
 }
 
 bool same_nodes(const struct nadrelgos_node *some, const struct nadrelgos_node *others, size_t count) {
@@ -29,6 +30,25 @@ void count_indexes(struct nadrelgos_node *nodes) {
     for (size_t p = 1; p <= NADRELGOS_NODES; p++) nodes[p - 1].index = counted_index(nodes, p);
 }
 
+bool are_versions_right(const struct nadrelgos_node *nodes) {
+    for (size_t i = 0; i < NADRELGOS_NODES; i++) {
+        bool is_one = nodes[i].version == 1 || nodes[i].version == 2;
+        if (nodes[i].kind == 0 ? nodes[i].version != 0 : !is_one) return false;
+    }
+    return true;
+}
+
+bool are_types_too_many(const struct nadrelgos_node *nodes, size_t count) {
+    bool is_old = false;
+    unsigned types = 0;
+    for (size_t p = 1; p <= count; p++) {
+        if (nodes[p - 1].kind == 0) continue;
+        types += counted_index(nodes, p) == 0; /* the first of its type */
+        is_old = is_old || nodes[p - 1].version == 1;
+    }
+    return is_old && types > 15;
+}
+
 static bool same_settings(const struct nadrelgos_settings *one, const struct nadrelgos_settings *other) {
     return memcmp(one->pool, other->pool, sizeof one->pool) == 0 && one->k == other->k &&
            one->subnet == other->subnet && one->internal == other->internal && one->mac == other->mac &&
@@ -46,7 +66,8 @@ bool same_kept(const struct nadrelgos_kept *one, const struct nadrelgos_kept *ot
 }
 
 bool same_found(const struct nadrelgos_found *one, const struct nadrelgos_found *other) {
-    return one->kind == other->kind && one->mac == other->mac && one->session == other->session;
+    return one->kind == other->kind && one->version == other->version && one->mac == other->mac &&
+           one->session == other->session;
 }
 
 bool same_coordinator(const struct nadrelgos_coordinator *one, const struct nadrelgos_coordinator *other) {

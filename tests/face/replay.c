@@ -4,7 +4,8 @@
  *   - a refusal has no other part, and changed no field of the records and no byte of out;
  *   - an accepted answer has the parts that its number allows, and none besides;
  *   - the bytes of out past what was written are as they were, those past its end too;
- *   - after an accepted call every record has the index that is counted, those included that the call does not name.
+ *   - after an accepted call every record has the index that is counted, those included that the call does not name,
+ *     and a version that it may have; and beside a 1.0 board no more than 15 types are listed.
  * What does not hold is told on standard error, with the line of the script, and the exit status is then 1. The last
  * line there counts the calls and the refusals.
  */
@@ -69,6 +70,8 @@ static void hold_accepted(uint64_t answer, size_t room) {
     size_t written = nadrelgos_written(answer);
     hold(parts_fit(answer), "the parts of the answer do not go together");
     hold(are_indexes_right(lent.nodes), "a record has another index than the one that is counted");
+    hold(are_versions_right(lent.nodes), "a record has a version that it cannot have");
+    hold(!are_types_too_many(lent.nodes, NADRELGOS_NODES), "more than 15 types are listed beside a 1.0 board");
     hold(written <= room && written <= NADRELGOS_ROOM, "more was written than there is room for");
     if (written > room) return;
     hold(memcmp(lent.out + written, before.out + written, sizeof lent.out - written) == 0,
@@ -236,9 +239,10 @@ static bool play_setup(struct line *line) {
 static bool play_join(struct line *line) {
     uint8_t kind = next_byte(line);
     uint64_t mac = next_number(line, UINT64_MAX), session = next_number(line, UINT64_MAX);
+    uint8_t version = next_byte(line);
     if (!is_whole(line)) return false;
     prepare();
-    answer_step(nadrelgos_join(&lent.coordinator, lent.nodes, kind, mac, session), 0);
+    answer_step(nadrelgos_join(&lent.coordinator, lent.nodes, kind, mac, session, version), 0);
     return true;
 }
 
@@ -277,8 +281,9 @@ static bool play_quiet(struct line *line) {
 
 static void write_record(size_t position) {
     const struct nadrelgos_node *node = &lent.nodes[position - 1];
-    printf("%zu %u %u %llu %llu %u %u %u\n", position, lent.coordinator.setup.pool[position - 1], node->kind,
-           (unsigned long long)node->mac, (unsigned long long)node->session, node->misses, node->owed, node->index);
+    printf("%zu %u %u %llu %llu %u %u %u %u\n", position, lent.coordinator.setup.pool[position - 1], node->kind,
+           (unsigned long long)node->mac, (unsigned long long)node->session, node->misses, node->owed, node->index,
+           node->version);
 }
 
 static bool play_table(struct line *line) {

@@ -1,16 +1,24 @@
 /*
- * The cutter (hosts/linux/cutter.h) on frames with noise before, between and after them, and another system's frames
- * among them, in stretches that a silence ends and in ones that are cut because they are too long: what a plain search
- * finds in the whole stretch is handed over, once and in its order, and a stretch without a frame as it came, up to the
- * longest frame. The bytes come in pieces of any size. They are the same each time.
+ * The cutter (hosts/linux/cutter.h) on frames with noise before, between and after them, in our subnet, in that of 1.0
+ * boards and in everybody's, and another system's frames among them, in stretches that a silence ends and in ones that
+ * are cut because they are too long: what a plain search finds in the whole stretch is handed over, once and in its
+ * order, and a stretch without a frame as it came, up to the longest frame. Frames stand in payloads of every other
+ * subnet. The bytes come in pieces of any size. They are the same each time. The searches are counted: for either subnet
+ * each start is tried once, and those that are kept of a stretch which was cut, once more.
  */
 #include "cutter.h"
+#include "nadrelgos.h"
 #include "wire.h"
 
 #include <stdio.h>
 #include <string.h>
 
 enum { STRETCHES = 300, FRAMES = 120, MOST_BYTES = FRAMES * (WIRE_MOST + 40), SUBNET = 3, OTHER = 4 };
+
+/* Our subnet: so many stretches with each of these. */
+static const uint8_t subnets[] = {SUBNET, OLD_SUBNET, WIRE_ALL};
+enum { SUBNETS = sizeof subnets };
+static uint8_t ours;
 
 static uint64_t drawn = 485;
 
@@ -34,10 +42,14 @@ static void put_noise(unsigned most) {
     for (unsigned i = draw_below(most + 1); i > 0; i--) bytes[count++] = noise();
 }
 
-/* A sender in our subnet, in everybody's, or in another system's. */
+/* A sender in our subnet, in that of 1.0 boards, in everybody's, or in another system's. */
 static struct sender draw_sender(void) {
-    static const uint8_t subnets[] = {SUBNET, SUBNET, SUBNET, WIRE_ALL, OTHER};
-    return (struct sender){(uint8_t)draw_below(256), subnets[draw_below(sizeof subnets)], (uint8_t)draw_below(256)};
+    static const uint8_t some[] = {SUBNET, SUBNET, OLD_SUBNET, OLD_SUBNET, WIRE_ALL, OTHER};
+    return (struct sender){(uint8_t)draw_below(256), some[draw_below(sizeof some)], (uint8_t)draw_below(256)};
+}
+
+static bool is_taken(uint8_t subnet) {
+    return subnet == ours || subnet == OLD_SUBNET || subnet == WIRE_ALL;
 }
 
 /* A frame; in another's payload there is none to be found, but where that one's end has not come yet, or where it is of
@@ -56,8 +68,8 @@ static void find_frames(void) {
     frames = 0;
     for (size_t at = 0; at + WIRE_AROUND <= count;) {
         size_t length = WIRE_AROUND + (size_t)bytes[at + AT_LENGTH];
-        bool is_ours = bytes[at + AT_SUBNET] == SUBNET || bytes[at + AT_SUBNET] == WIRE_ALL;
-        bool is_frame = is_ours && length <= WIRE_MOST && length <= count - at && wire_good(bytes + at, length);
+        bool is_frame = is_taken(bytes[at + AT_SUBNET]) && length <= WIRE_MOST && length <= count - at &&
+                        wire_good(bytes + at, length);
         if (is_frame) {
             starts[frames] = at;
             ends[frames++] = at + length;
@@ -74,6 +86,22 @@ static void make_stretch(unsigned most_frames) {
         put_noise(i % 3 == 1 ? 30 : 0);
     }
     find_frames();
+}
+
+/* The finder as the cutter calls it here (tests/line/run), and how many starts were tried so far. */
+struct nadrelgos_finding counted_find(uint8_t subnet, const uint8_t *from, size_t length, size_t budget);
+
+static size_t tried;
+
+struct nadrelgos_finding counted_find(uint8_t subnet, const uint8_t *from, size_t length, size_t budget) {
+    struct nadrelgos_finding finding = nadrelgos_find(subnet, from, length, budget);
+    tried += finding.tried;
+    return finding;
+}
+
+/* How many starts may be tried at most in the stretch. */
+static size_t most_tried(void) {
+    return CUTTER_SUBNETS * (count + count / CUTTER_MOST * WIRE_MOST);
 }
 
 /* What the cutter hands over: the frames of the stretch from `next` on. How many there are now; -1: another. */
@@ -93,6 +121,7 @@ static long take_all(struct cutter *cutter, long next) {
 /* Whether the stretch is handed over as it must be. */
 static bool hold(struct cutter *cutter) {
     long next = 0;
+    tried = 0;
     for (size_t at = 0; at < count && next >= 0;) {
         size_t piece = 1 + draw_below(200);
         if (piece > count - at) piece = count - at;
@@ -103,19 +132,29 @@ static bool hold(struct cutter *cutter) {
     cutter_cut(cutter);
     next = take_all(cutter, next);
     long wanted = frames ? (long)frames : count > 0;
-    return next == wanted && !cutter_is_filling(cutter);
+    return next == wanted && !cutter_is_filling(cutter) && tried <= most_tried();
+}
+
+/* How many frames of the stretch are of 1.0 boards. */
+static unsigned long old_ones(void) {
+    unsigned long old = 0;
+    for (size_t i = 0; i < frames; i++) old += bytes[starts[i] + AT_SUBNET] == OLD_SUBNET;
+    return old;
 }
 
 int main(void) {
-    static struct cutter cutter = {.subnet = SUBNET};
-    unsigned long all = 0, wrong = 0, long_ones = 0;
-    for (unsigned i = 0; i < STRETCHES; i++) {
+    static struct cutter cutter;
+    unsigned long all = 0, old = 0, wrong = 0, long_ones = 0;
+    for (unsigned i = 0; i < STRETCHES * SUBNETS; i++) {
+        cutter.subnet = ours = subnets[i / STRETCHES];
         make_stretch(i % 2 ? FRAMES - 1 : 4);
         wrong += !hold(&cutter);
         all += frames;
+        old += old_ones();
         long_ones += count > CUTTER_MOST;
     }
-    printf("cut: %lu frames in %u stretches, %lu of them cut without a silence; %lu stretches wrong\n", all, STRETCHES,
-           long_ones, wrong);
+    printf("cut: %lu frames, %lu of them of 1.0 boards, in %u stretches, %lu of these cut without a silence; "
+           "%lu stretches wrong\n",
+           all, old, STRETCHES * SUBNETS, long_ones, wrong);
     return wrong != 0;
 }

@@ -2,6 +2,7 @@
 import fcntl
 import os
 import random
+import re
 import select
 import struct
 import subprocess
@@ -15,6 +16,9 @@ from played import Boards, Failed, Panel, Program, command_of
 FASTER = 20
 SILENCE = ["--silence", "6"]  # milliseconds: pieces of a frame come closer together on a pseudo-terminal
 MACS = {"thermostat": "00001a2b00000101", "furnace": "00001a2b00000202", "heatpump": "00001a2b00000505"}
+# the boards that speak 1.0; the subnets in a frame's digits, by the version
+OLD = {"furnace"}
+SUBNETS = {1: "02", 2: "03"}
 # the heat call's payload: the command's code in two bytes, 70 percent, 0
 HEAT = "64004600"
 
@@ -29,6 +33,22 @@ def check(holds, what):
 
 def payload(event):
     return event["frame"][20:-4]
+
+
+def subnet(event):
+    return event["frame"][4:6]
+
+
+def list_for(name, homes):
+    """The types that a board gets in its list, behind the internal one: by positions. For a 1.0 board they are 15 bytes, in which 1.0 boards stand at their
+    positions and the others where it is open (Networking Specification, 8.1.2.4)."""
+    boards = sorted(homes.values(), key=lambda home: home["position"])
+    kinds = [home["type"] for home in boards]
+    if name in OLD:
+        kinds = [0] * 15
+        for home in sorted(boards, key=lambda home: home["version"]):
+            kinds[home["position"] - 1 if home["version"] == 1 else kinds.index(0)] = home["type"]
+    return "".join(f"{kind:02X}" for kind in kinds)
 
 
 def joined(panel, place=0, names=tuple(MACS), seconds=30):
@@ -52,12 +72,23 @@ def all_are_found(panel, boards):
             check(panel.events("sent", exchange=exchange, position=position), f"{name} had no {exchange}")
         check(address == 15 + position, f"{name} is at address {address}")
         boards.wait(f"{name} has its address", lambda line, n=name, a=address: line == f"{n}: address {a}")
-    types = "".join(f"{home['type']:02X}" for home in sorted(homes.values(), key=lambda home: home["position"]))
     for name, home in homes.items():
-        _, sent = panel.wait(f"{name} gets the list of all", lambda e, h=home: e["event"] == "sent" and e["exchange"] == "list"
-                             and e["position"] == h["position"] and payload(e)[2:] == types)
+        _, sent = panel.wait(f"{name} gets the list of all", lambda e, h=home, types=list_for(name, homes): e["event"] == "sent"
+                             and e["exchange"] == "list" and e["position"] == h["position"] and payload(e)[2:] == types)
         panel.event("taken", panel.said.index(sent), exchange="list", position=home["position"])
     return homes
+
+
+def each_has_its_subnet(panel, homes):
+    """The furnace speaks 1.0: it was assigned subnet 2, and whatever went to it and came from it had that. All others have ours."""
+    for name, home in homes.items():
+        version, position = 1 if name in OLD else 2, home["position"]
+        check(home["version"] == version, f"{name} is listed as version {home['version']}")
+        of_it = [e for e in panel.since(0) if e.get("position") == position]
+        assigned = [payload(e)[2:4] for e in of_it if e["event"] == "sent" and e["exchange"] == "assign"]
+        check(assigned[-1] == SUBNETS[version], f"{name} was assigned subnet {assigned[-1]}")
+        frames = [e for e in of_it if e["event"] in ("sent", "taken") and e["exchange"] in ("offer", "list", "forward", "return")]
+        check({subnet(e) for e in frames} == {SUBNETS[version]}, f"{name} is spoken to, or speaks, in another subnet than its own")
 
 
 def heat_is_carried(panel, boards, homes):
@@ -110,11 +141,11 @@ def single_misses_drop_nobody(panel, boards, homes):
     check(not panel.events("dropped", first), "a board was dropped, though never three in a row were missed")
 
 
-def another_system_is_not_heard(panel, boards, homes):
-    """Two messages to the furnace are answered by another system's board at its address: refused 24, and two misses."""
-    position = homes["furnace"]["position"]
+def another_system_is_not_heard(panel, boards, homes, name):
+    """Two messages to a board are answered by another system's board at its address: refused 24, and two misses."""
+    position = homes[name]["position"]
     first = place = answers(panel, position, panel.place())
-    boards.order("elsewhere furnace 2")
+    boards.order(f"elsewhere {name} 2")
     for misses in 1, 2:
         place, refused = panel.event("refused", place, call="frame")
         check(refused["number"] == 24, f"another system's frame is refused {refused['number']}")
@@ -181,7 +212,21 @@ def power_goes_and_comes(panel, boards, homes):
     place = panel.place()
     boards.order("jumper furnace 3")
     _, again = panel.event("joined", place, 30, mac=MACS["furnace"])
-    check((again["type"], again["position"]) == (3, homes["furnace"]["position"]), f"the furnace is now {again}")
+    check((again["type"], again["version"], again["position"]) == (3, 1, homes["furnace"]["position"]), f"the furnace is now {again}")
+    return homes
+
+
+def version_changes(panel, boards, homes):
+    """The furnace comes back to its own place as a 2.0 board, and then as a 1.0 board again: it is spoken to in the subnet of what it is."""
+    position = homes["furnace"]["position"]
+    for version in 2, 1:
+        place = panel.place()
+        boards.order(f"version furnace {version}")
+        place, again = panel.event("joined", place, 30, mac=MACS["furnace"])
+        check((again["version"], again["position"]) == (version, position), f"the furnace is now {again}")
+        place, offer = panel.event("sent", place, exchange="offer", position=position)
+        check(subnet(offer) == SUBNETS[version], f"as version {version} it is offered the bus in subnet {subnet(offer)}")
+        answers(panel, position, place)
 
 
 def device_comes_back(panel, boards):
@@ -276,10 +321,12 @@ def shown(boards, is_screen, *lasts):
 
 
 def shows_what_happens(boards):
-    """A screen with a row for each board, which has its index, and the terminal as it was afterwards; not on a terminal, a line for each event."""
+    """A screen with a row for each board, which has its version and its index, and the terminal as it was afterwards; not on a terminal, a line for each
+    event."""
     boards.order("plug second 2 1A2B00000303")
-    furnaces = [f"{'furnace (2)':20} {index:5}  " for index in range(2)]
+    furnaces = [f"{'furnace (2)':20} {version} " for version in ("1.0", "2.0")]
     screen = shown(boards, True, "listed: heat pump", *furnaces)
+    check({index for index in "01" if re.search(rf"furnace \(2\) +[12]\.0 +{index} ", screen)} == {"0", "1"}, "two furnaces have not the indexes 0 and 1")
     check(screen.startswith("\x1b[?1049h") and "\x1b[?1049l" in screen, "the terminal's other screen is not taken and left")
     check("Nadrelgos on " + link in screen and "heat pump (5)" in screen, "the screen has no head or no row")
     lines = [line.split(None, 2) for line in shown(boards, False, "listed: heat pump").splitlines()]
@@ -321,6 +368,26 @@ def any_bytes(seconds=2):
     os.close(master)
 
 
+def sixteenth_type_waits():
+    """While a 1.0 board is listed, boards of fifteen types are, and one of a sixteenth is found and cannot join. It joins once the furnace is a 2.0 board."""
+    boards = Boards(out, link, 50)
+    panel = Panel(out, link, 50, "--silence", "3")
+    joined(panel)
+    for kind in range(30, 42):
+        boards.order(f"plug more{kind} {kind} 1A2B000006{kind}")
+    for kind in range(30, 42):
+        panel.event("joined", 0, 60, type=kind)
+    place = panel.place()
+    boards.order("plug last 42 1A2B00000642")
+    place, found = panel.event("taken", place, 60, exchange="search", answer="rest")
+    check("due" not in found and payload(found)[:2] == "2A", f"the sixteenth type is found, and then: {found}")
+    check(not panel.events("joined", type=42), "a sixteenth type is listed beside a 1.0 board")
+    boards.order("version furnace 2")
+    panel.event("joined", place, 60, type=42)
+    check(panel.stop() == 0, "the panel did not end well with sixteen types")
+    boards.stop()
+
+
 def wrong_words():
     """What cannot be done is said in words, with the exit status that the help states."""
     command = command_of(out, "panel")
@@ -341,14 +408,17 @@ def main():
     panel = Panel(out, link, FASTER, "--capture", capture, *SILENCE)
     homes = all_are_found(panel, boards)
     heat_is_carried(panel, boards, homes)
+    each_has_its_subnet(panel, homes)
     texts_are_shown(panel, boards, homes)
     shared_data_is_served(panel, boards, homes)
     single_misses_drop_nobody(panel, boards, homes)
-    another_system_is_not_heard(panel, boards, homes)
+    for name in "furnace", "thermostat":
+        another_system_is_not_heard(panel, boards, homes, name)
     unplugged_is_dropped(panel, boards, homes)
     before_noise = panel.since(0)
     noise_costs_no_board(panel, boards, homes)
-    power_goes_and_comes(panel, boards, homes)
+    homes = power_goes_and_comes(panel, boards, homes)
+    version_changes(panel, boards, homes)
     boards = device_comes_back(panel, boards)
     panel = panel_comes_back(panel)
     end_is_clean(panel)
@@ -359,6 +429,7 @@ def main():
     full_disk_stops_only_the_capture()
     shows_what_happens(boards)
     boards.stop()
+    sixteenth_type_waits()
     any_bytes()
     print(f"line: all as it must be, {time.monotonic() - began:.0f} s")
 

@@ -1,7 +1,7 @@
 """The walk of a function that C calls:
 
     extern "C" fn FUNCTION(coordinator: &mut Coordinator, nodes: &mut [Node], .., out: &mut [u8]) -> u64 {
-        let e = event_of(number, kind, mac, session);
+        let e = event_of(number, kind, mac, session, version);
         let o = STEP(coordinator, nodes, e, .., out);
         lent::pack(o)
     }

@@ -1,16 +1,17 @@
 """The walk of the function that looks at a lent coordinator and at lent records:
 
-    fn look(coordinator: &Coordinator, nodes: &[Node], kinds: &mut [u8; 40], indexes: &mut [u8; 40], macs: &mut [u64; 40]) -> Seen {
+    fn look(coordinator: &Coordinator, nodes: &[Node], kinds: &mut [u8; 40], indexes: &mut [u8; 40], versions: &mut [u8; 40],
+            macs: &mut [u64; 40]) -> Seen {
         let setup = coordinator.setup;
         let state = state_of(coordinator);
-        let d = digest(setup.k, nodes, kinds, indexes, macs);
+        let d = digest(setup.k, nodes, kinds, indexes, versions, macs);
         Seen { setup: setup, state: state, ok: d.ok, top: d.top, owed: d.owed }
     }
 
 Coordinator and records are shared, and a copy of the reference goes to each callee; the columns are given to `digest` for good.
 
-h and ys are coordinator and records, ks, xs and ms the columns at entry, s is the state, d the digest. What `look` ensures is what `state_of` ensures of s and
-`digest` of d, with the setup as it is."""
+h and ys are coordinator and records, ks, xs, zs and ms the columns at entry, s is the state, d the digest. What `look` ensures is what `state_of` ensures of s
+and `digest` of d, with the setup as it is."""
 from borrows import SharedRecord, SharedSlice, marked
 from calls import Callee
 from lent import LentRecord
@@ -21,9 +22,9 @@ from stages import Stages
 from terms import abbrev, lemma, nest
 
 # the columns: an array, and what it is at entry
-COLUMNS = {'kinds': (Numbers('u8', 40), 'ks'), 'indexes': (Numbers('u8', 40), 'xs'), 'macs': (Numbers('u64', 40), 'ms')}
+COLUMNS = {'kinds': (Numbers('u8', 40), 'ks'), 'indexes': (Numbers('u8', 40), 'xs'), 'versions': (Numbers('u8', 40), 'zs'), 'macs': (Numbers('u64', 40), 'ms')}
 MADE, IS_MADE = 'seen h s d', 'is-seen h _ isc s _ iss d _ isd'
-ALL = 'digestAll (h .setup .k) ys (digested (dg true 0 0) ks xs ms)'
+ALL = 'digestAll (h .setup .k) ys (digested (dg true 0 0) ks xs zs ms)'
 
 
 class Look(Stages):
@@ -35,7 +36,7 @@ class Look(Stages):
 
     def __init__(self):
         self.coordinator, self.nodes = SharedRecord('coordinator', marked('₀'), IN_PLACE, 'h'), SharedSlice('nodes', marked('₁'), None, None, NODE, 'ys', 'room')
-        self.columns = [LentRecord(name, marked(mark), None, of, now, f'{now}′') for mark, (name, (of, now)) in zip('₂₃₄', COLUMNS.items())]
+        self.columns = [LentRecord(name, marked(mark), None, of, now, f'{now}′') for mark, (name, (of, now)) in zip('₂₃₄₅', COLUMNS.items())]
         self.state_of = Callee('place::state_of', 'state′', 'State-of', 'state', stem='state')
         self.digest = Callee('place::digest', 'digest′', 'Digests', 'digest')
         super().__init__('look', [self.coordinator, self.nodes, *self.columns], [self.state_of, self.digest])
@@ -85,7 +86,7 @@ class Look(Stages):
         w.spell('state', STATE, 's', 'iss', 'y')
 
     def call_digest(self, w):
-        """let d = digest(setup.k, nodes, kinds, indexes, macs)"""
+        """let d = digest(setup.k, nodes, kinds, indexes, versions, macs)"""
         w.say('-- `digest`')
         for x in self.columns:
             x.reborrow(w)

@@ -3,10 +3,11 @@
     fn step(coordinator: &mut Coordinator, nodes: &mut [Node], event: Event, received: &[u8], out: &mut [u8]) -> Outcome {
         let mut kinds = [0u8; 40];
         let mut indexes = [0u8; 40];
+        let mut versions = [0u8; 40];
         let mut macs = [0u64; 40];
-        let seen = place::look(coordinator, nodes, &mut kinds, &mut indexes, &mut macs);
+        let seen = place::look(coordinator, nodes, &mut kinds, &mut indexes, &mut versions, &mut macs);
         let node = place::record_at(nodes, seen.state.stand.board);
-        let change = stepping::counted(nodes.len(), seen, node, &coordinator.kept.payload, &kinds, &indexes, &macs, event, received, out);
+        let change = stepping::counted(nodes.len(), seen, node, &coordinator.kept.payload, &kinds, &indexes, &versions, &macs, event, received, out);
         place::make(coordinator, nodes, seen.state, change, received);
         change.outcome
     }
@@ -14,9 +15,9 @@
 Coordinator and records are shared for `look`, the records again for `record_at`, the coordinator's payload for `counted`; in the end both are given to `make` for
 good, as the output is to `counted`. The columns are locals: lent to `look`, shared for `counted`.
 
-h, ys and os are coordinator, records and output at entry, k, us and ts what they end as; ev is the event, bs are the bytes received. s is what is seen, cs, ds and
-fs are the columns then, y is the record at stake, x the change. What `look` ensures is `LookSaid`, what `counted` ensures `DecidesCounted`; `stepped-in-place` leads
-from these, and from what `record_at` and `make` ensure, to what the step ensures."""
+h, ys and os are coordinator, records and output at entry, k, us and ts what they end as; ev is the event, bs are the bytes received. s is what is seen, cs, ds,
+gs and fs are the columns then, y is the record at stake, x the change. What `look` ensures is `LookSaid`, what `counted` ensures `DecidesCounted`;
+`stepped-in-place` leads from these, and from what `record_at` and `make` ensure, to what the step ensures."""
 from borrows import SharedSlice, marked
 from calls import Callee
 from lending import LentCell, SharedAgain, SharedCell
@@ -29,7 +30,8 @@ from stages import Stages
 from terms import grouped, lemma
 
 # what the columns are of, what each is when it has been noted, and that its zeros are right
-COLUMNS = {'kinds': (Numbers('u8', 40), 'cs', 'zeros8'), 'indexes': (Numbers('u8', 40), 'ds', 'zeros8'), 'macs': (Numbers('u64', 40), 'fs', 'zeros64')}
+COLUMNS = {'kinds': (Numbers('u8', 40), 'cs', 'zeros8'), 'indexes': (Numbers('u8', 40), 'ds', 'zeros8'), 'versions': (Numbers('u8', 40), 'gs', 'zeros8'),
+           'macs': (Numbers('u64', 40), 'fs', 'zeros64')}
 ZEROS, BOARD, DOES = '(replicate 40 0)', '(s .state .stand .board)', 'stepOf h ys ev bs (length os)'
 SEEN_VALUE, CHANGE_VALUE = SEEN.value('s'), CHANGE.value('x')
 
@@ -102,7 +104,7 @@ class Step(Stages):
     def walk(self):
         """the walk, statement by statement"""
         w = self.enter()
-        self.columns = [Column(self, name, times) for name, times in zip(COLUMNS, (('ν₂', 'δ₂'), ('ν₃', 'δ₃'), ('ν₄', 'δ₄')))]
+        self.columns = [Column(self, name, times) for name, times in zip(COLUMNS, (('ν₂', 'δ₂'), ('ν₃', 'δ₃'), ('ν₄', 'δ₄'), ('ν₅', 'δ₅')))]
         self.make_columns(w)
         self.call_look(w)
         self.call_record_at(w)
@@ -110,22 +112,22 @@ class Step(Stages):
         self.call_make(w)
         w.copy('return', w.field('change', *path('Change', 'outcome')), OUTCOME.typed('x .outcome', 'to-outcome x _ isx'), OUTCOME.value('x .outcome'))
         self.leave(w)
-        law = f'stepped-in-place h ys ev bs os s cs ds fs y {PAYLOAD} x (ws .0) (ws .1 .0) ts said ey (same-is (h .kept .payload)) ex made'
+        law = f'stepped-in-place h ys ev bs os s cs ds gs fs y {PAYLOAD} x (ws .0) (ws .1 .0) ts said ey (same-is (h .kept .payload)) ex made'
         return self.walk_lemma(w, f'by ! (exits (ws .0) (ws .1 .0) ts (x .outcome) _ lu lt ({law}) (to-outcome x _ isx))')
 
     def make_columns(self, w):
-        """let mut kinds = [0u8; 40]; let mut indexes = [0u8; 40]; let mut macs = [0u64; 40]"""
+        """let mut kinds = [0u8; 40]; let mut indexes = [0u8; 40]; let mut versions = [0u8; 40]; let mut macs = [0u64; 40]"""
         for x in self.columns:
             w.assign(x.name, 'rep ! 40 (lit ! tt)', x.of.typed(ZEROS, x.is_zeros), x.zeros)
 
     def call_look(self, w):
-        """let seen = place::look(coordinator, nodes, &mut kinds, &mut indexes, &mut macs)"""
+        """let seen = place::look(coordinator, nodes, &mut kinds, &mut indexes, &mut versions, &mut macs)"""
         self.coordinator.reborrow(w, 'look.coordinator')
         self.nodes.reborrow(w, 'look')
         for x in self.columns:
             w.address(f'{x.name}.ref', value=x.value)
         self.stage(w)
-        w.say('-- `look`: coordinator and records are shared, and the three arrays lent')
+        w.say('-- `look`: coordinator and records are shared, and the four arrays lent')
         self.coordinator.uncover(w)
         shared = SharedCell('coordinator', ('ν₀', 'δ₀'), ('b₀', 'o₀'), IN_PLACE, 'h', 'look.coordinator', [self.coordinator.record, 'plain'])
         passed = Arguments.of_call(shared, SharedAgain(self.nodes, ('ν₁', 'δ₁'), 'look.slice'), *self.columns)
@@ -136,7 +138,7 @@ class Step(Stages):
         self.call(w, self.look, passed, ('s', SEEN, 'v', 'is'), f'LookSaid h ys s {ended}', 'said', 'seen')
         w.spell('seen', SEEN, 's', 'is', 'y')
         nodes.come_back(w)
-        for x, values in zip(columns, ('vs₁', 'vs₂', 'vs₃')):
+        for x, values in zip(columns, ('vs₁', 'vs₂', 'vs₃', 'vs₄')):
             x.come_back(w, ends[x.end], values, f'array {x.name}', f'own {x.name}')
             self.says[f'array {x.name}'] = f'‵ (cellAt fullShare ({x.of.row} .mir) {values} {x.where})'
             self.says[f'own {x.name}'] = f'‵ ({x.of.row} .own {x.noted} {values})'
@@ -144,7 +146,7 @@ class Step(Stages):
         self.coordinator.cover(w, 'h', 'cvs')
         self.coordinator.as_one(w)
         self.stage(w, ('s', 'Seen'), ('iss', f'Is Sn.the-row s ({SEEN_VALUE} ∷ [])', f'({SEEN.told("s", "_", "is")})'), (' '.join(ends), 'List ℕ', ended),
-                   ('said', f'LookSaid h ys s {" ".join(ends)}'), ('vs₁ vs₂ vs₃', 'List Val'))
+                   ('said', f'LookSaid h ys s {" ".join(ends)}'), ('vs₁ vs₂ vs₃ vs₄', 'List Val'))
 
     def call_record_at(self, w):
         """let node = place::record_at(nodes, seen.state.stand.board)"""
@@ -159,7 +161,7 @@ class Step(Stages):
         self.stage(w, ('y', 'Node'), ('vy', 'Val'), ('isy', 'Is T.the-row y (vy ∷ [])'), ('ey', found))
 
     def call_counted(self, w):
-        """let change = stepping::counted(nodes.len(), seen, node, &coordinator.kept.payload, &kinds, &indexes, &macs, event, received, out)"""
+        """let change = stepping::counted(nodes.len(), seen, node, &coordinator.kept.payload, &kinds, &indexes, &versions, &macs, event, received, out)"""
         count = Value('n', USIZE, 'length ys', USIZE.value('length ys'), '(refl, room₁ .0)')
         w.copy('n', w.field('nodes', 1), '(tt, record { fits = room₁ .0 })', count.value)
         w.address('payload.shr', f'hop ! (look ! {w.cell("coordinator")} refl) {FIELD}', VALUE)
@@ -171,12 +173,12 @@ class Step(Stages):
         self.coordinator.open(w, 'isc')
         take_out(w, self.coordinator.record, 'isc')
         payload = SharedCell('payload', ('ν₀', 'δ₀'), WHERE, BYTES, PAYLOAD, 'payload.shr', ['payload', 'plain'])
-        columns = [x.shared(times) for x, times in zip(self.columns, (('ν₁', 'δ₁'), ('ν₂', 'δ₂'), ('ν₃', 'δ₃')))]
+        columns = [x.shared(times) for x, times in zip(self.columns, (('ν₁', 'δ₁'), ('ν₂', 'δ₂'), ('ν₃', 'δ₃'), ('ν₄', 'δ₄')))]
         seen, node = Value('seen', SEEN, 's', SEEN_VALUE, 'iss'), Value('node', NODE, 'y', 'vy', 'isy')
         passed = Arguments.of_call(count, seen, node, payload, *columns, self.event, self.received, self.out)
         passed.lend(w)
         ended = passed.ends('ws')['ts']
-        decides = f'DecidesCounted (length ys) s y {PAYLOAD} cs ds fs ev bs x os'
+        decides = f'DecidesCounted (length ys) s y {PAYLOAD} cs ds gs fs ev bs x os'
         self.call(w, self.counted, passed, ('x', CHANGE, 'vx', 'is'), f'{decides} {ended}', 'ex', 'change')
         w.spell('change', CHANGE, 'x', 'is', 'y')
         self.take_back(w, *(x for x in passed if isinstance(x, SharedCell)))
@@ -193,7 +195,7 @@ class Step(Stages):
         put_back(w, self.coordinator.record, '(h .kept .payload)', 'h')
         self.coordinator.close(w, 'isc', 'h')
         self.coordinator.as_one(w)
-        for x, values in zip(columns, ('us₁', 'us₂', 'us₃')):
+        for x, values in zip(columns, ('us₁', 'us₂', 'us₃', 'us₄')):
             x.come_back(w, values)
             array, own = x.parts
             w.say(x.of.spelt(x.now, values, x.where))

@@ -13,7 +13,7 @@ use Rattle.refusal.specs.declared.Refusal.the-variants.{UnexpectedType, BadEcho
 use Rattle.refusal.proofs.Numbers.{not-zero}
 use Rattle.refusal.proofs.Rules.{Passed, accepted-exactly}
 use Rattle.board.specs.declared.Node.{Node}
-use Rattle.nodelist.specs.List.{nodeList, sameList}
+use Rattle.nodelist.specs.List.{listFor, sameList}
 use Rattle.nodelist.proofs.Theorems.{same-yes, same-of}
 use Rattle.accept.specs.declared.Heard.{Heard}
 use Rattle.accept.specs.declared.Heard.the-variants.{Ack, Echo, Refused}
@@ -66,12 +66,12 @@ accepted-after-offer m d a = Iff·trans (accepted-exactly Accepted Refused _ (by
         (as-expected (offerTypes m) m a (or-right (ackType m) (requestType m) (request-yes m l k)) (λ e. absurd (let z : ⊥ = omega arith in z)), (rw (request-yes m l k, le-ltb 3 d n) refl, tt))
 
 -- after a list: type 0x94 whose payload equals the list sent
-pub accepted-after-list : (m internal : ℕ) (t : List Node) (payload : List ℕ) → Accepted (heardAfterList m (sameList internal t payload)) ↔ ((m ≡ 148) × (payload ≡ nodeList internal t))
+pub accepted-after-list : (m version internal : ℕ) (t : List Node) (payload : List ℕ) → Accepted (heardAfterList m (sameList version internal t payload)) ↔ ((m ≡ 148) × (payload ≡ listFor version internal t))
 unfolding heardAfterList
-accepted-after-list m internal t payload =
-    Iff·trans (accepted-exactly Accepted Refused Echo refl not-zero ((not (listTypes m), UnexpectedType) ∷ (not (sameList internal t payload), BadEcho) ∷ [])) (
-      (λ h. (eqb-true m 148 (not-false (listTypes m) (h .0)), same-yes internal t payload (not-false (sameList internal t payload) (h .1 .0)))),
-      (λ h. (not-no (listTypes m) (eq-eqb m 148 (h .0)), (not-no (sameList internal t payload) (same-of internal t payload (h .1)), tt))),
+accepted-after-list m version internal t payload =
+    Iff·trans (accepted-exactly Accepted Refused Echo refl not-zero ((not (listTypes m), UnexpectedType) ∷ (not (sameList version internal t payload), BadEcho) ∷ [])) (
+      (λ h. (eqb-true m 148 (not-false (listTypes m) (h .0)), same-yes (listFor version internal t) payload (not-false (sameList version internal t payload) (h .1 .0)))),
+      (λ h. (not-no (listTypes m) (eq-eqb m 148 (h .0)), (not-no (sameList version internal t payload) (same-of (listFor version internal t) payload (h .1)), tt))),
     )
 
 -- after a forward: at most one ACK, and the response, type = request + 128

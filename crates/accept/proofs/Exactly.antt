@@ -15,7 +15,7 @@ use Rattle.refusal.specs.declared.Refusal.the-variants.{UnexpectedType, BadEcho
 use Rattle.refusal.proofs.Numbers.{not-zero, same-refused}
 use Rattle.refusal.proofs.Rules.{refused-first, refused-later}
 use Rattle.board.specs.declared.Node.{Node}
-use Rattle.nodelist.specs.List.{nodeList, sameList}
+use Rattle.nodelist.specs.List.{listFor, sameList}
 use Rattle.nodelist.proofs.Theorems.{same-yes, same-of}
 use Rattle.accept.specs.declared.Heard.{Heard}
 use Rattle.accept.specs.declared.Heard.the-variants.{Ack, Echo, Deliver, Route, Answer, Refused}
@@ -84,11 +84,11 @@ pub second-ack : (q : ℕ) (a : Bool) → heardAfterForward 0 q a true ≡ Refus
 second-ack q a = unexpected-after-forward 0 q a true .1 (inl (ne-eqb 0 (q + 128) (λ e. omega arith)))
 
 -- 8: after a list, 0x94 with another payload
-pub bad-echo-after-list : (m internal : ℕ) (t : List Node) (payload : List ℕ) → (heardAfterList m (sameList internal t payload) ≡ Refused BadEcho) ↔ ((m ≡ 148) × (payload ≡ nodeList internal t → ⊥))
+pub bad-echo-after-list : (m version internal : ℕ) (t : List Node) (payload : List ℕ) → (heardAfterList m (sameList version internal t payload) ≡ Refused BadEcho) ↔ ((m ≡ 148) × (payload ≡ listFor version internal t → ⊥))
 unfolding heardAfterList
-bad-echo-after-list m internal t payload =
-    Iff·trans (refused-later Refused Echo apart (taken Echo refl) (not (listTypes m)) UnexpectedType ((not (sameList internal t payload), BadEcho) ∷ []) BadEcho (λ e. omega (arith, ap numberOf e)))
-    (Iff·and (of-type, as-type) (Iff·trans (refused-first Refused Echo apart (taken Echo refl) (not (sameList internal t payload)) BadEcho [] tt) (other, as-other)))
+bad-echo-after-list m version internal t payload =
+    Iff·trans (refused-later Refused Echo apart (taken Echo refl) (not (listTypes m)) UnexpectedType ((not (sameList version internal t payload), BadEcho) ∷ []) BadEcho (λ e. omega (arith, ap numberOf e)))
+    (Iff·and (of-type, as-type) (Iff·trans (refused-first Refused Echo apart (taken Echo refl) (not (sameList version internal t payload)) BadEcho [] tt) (other, as-other)))
   where
     of-type : not (listTypes m) ≡ false → m ≡ 148
     of-type e = eqb-true m 148 (not-false (listTypes m) e)
@@ -96,14 +96,14 @@ bad-echo-after-list m internal t payload =
     as-type : m ≡ 148 → not (listTypes m) ≡ false
     as-type e = not-no (listTypes m) (eq-eqb m 148 e)
 
-    other : not (sameList internal t payload) ≡ true → payload ≡ nodeList internal t → ⊥
-    other e h = false≢true (sym (not-true _ e) ∙ same-of internal t payload h)
+    other : not (sameList version internal t payload) ≡ true → payload ≡ listFor version internal t → ⊥
+    other e h = false≢true (sym (not-true _ e) ∙ same-of (listFor version internal t) payload h)
 
-    as-other : (payload ≡ nodeList internal t → ⊥) → not (sameList internal t payload) ≡ true
-    as-other ne = go (sameList internal t payload) refl
+    as-other : (payload ≡ listFor version internal t → ⊥) → not (sameList version internal t payload) ≡ true
+    as-other ne = go (sameList version internal t payload) refl
       where
-        go : (b : Bool) → sameList internal t payload ≡ b → not b ≡ true
-        go true e = absurd (ne (same-yes internal t payload e))
+        go : (b : Bool) → sameList version internal t payload ≡ b → not b ≡ true
+        go true e = absurd (ne (same-yes (listFor version internal t) payload e))
         go false e = refl
 
 -- 9: after an offer, a request with method above 3

@@ -59,10 +59,11 @@ pub record SameBoard (a b : Node) : Type 0 where
   pub mac : a .mac ≡ b .mac
   pub session : a .session ≡ b .session
   pub misses : a .misses ≡ b .misses
+  pub version : a .version ≡ b .version
 
--- owing the list to all keeps each record's kind, MAC, session and misses
+-- owing the list to all keeps each record's kind, MAC, session, misses and version
 pub owe-all-keeps : (t : List Node) (p : ℕ) → SameBoard (at (oweAll t) p) (at t p)
-owe-all-keeps t p = rw (at-owe-all t p) (record { kind = refl; mac = refl; session = refl; misses = refl })
+owe-all-keeps t p = rw (at-owe-all t p) (record { kind = refl; mac = refl; session = refl; misses = refl; version = refl })
 
 -- so the same positions are listed
 pub owe-all-listed : (t : List Node) (p : ℕ) → listedAt (oweAll t) p ≡ listedAt t p

@@ -3,6 +3,7 @@ pub mod LowestWanted
 pub mod Index
 pub mod SameKinds
 pub mod Columns
+pub mod Types
 pub mod NextListed
 pub mod Changes
 pub mod Cleared

@@ -49,7 +49,7 @@ pub numbered-again : (t : List Node) → length t ≡ 40 → Numbered t → numb
 numbered-again t forty h = ext-getD none (numbered t) t (numbered-length t) (λ i l. sym (at-next (numbered t) i) ∙ at-numbered t (i + 1) ∙ as-stored (at t (i + 1)) (indexOf t (i + 1)) (h (i + 1)) (index-within t (i + 1) forty) ∙ at-next t i)
   where
     as-stored : (n : Node) (x : ℕ) → n .index ≡ x → x ≤ 40 → indexed n x ≡ n
-    as-stored n x e l = ap (λ (y : ℕ). record { kind = n .kind; mac = n .mac; session = n .session; misses = n .misses; owed = n .owed; index = y }) (let z : min x 255 ≡ n .index = omega (arith, e, l) in z)
+    as-stored n x e l = ap (λ (y : ℕ). record { kind = n .kind; mac = n .mac; session = n .session; misses = n .misses; owed = n .owed; index = y; version = n .version }) (let z : min x 255 ≡ n .index = omega (arith, e, l) in z)
 
 -- stored stays counted where types and indexes stay
 pub same-numbered : (t u : List Node) → SameKinds u t → ((p : ℕ) → at u p .index ≡ at t p .index) → Numbered t → Numbered u
@@ -72,7 +72,7 @@ unfolding relisted
 relisted-length t = owe-all-length (numbered t) ∙ numbered-length t
 
 pub relisted-keeps : (t : List Node) (p : ℕ) → SameBoard (at (relisted t) p) (at t p)
-relisted-keeps t p = rw (at-relisted t p) (record { kind = refl; mac = refl; session = refl; misses = refl })
+relisted-keeps t p = rw (at-relisted t p) (record { kind = refl; mac = refl; session = refl; misses = refl; version = refl })
 
 pub relisted-kinds : (t : List Node) → SameKinds (relisted t) t
 relisted-kinds t = record { kind = λ p. relisted-keeps t p .kind }

@@ -1,10 +1,18 @@
 -- The contracts, as they stand in the source, leave one result for each input.
 use mathlib.Core.Path.{_≡_, sym, _∙_}
 use mathlib.Core.Bool.{Bool}
+use mathlib.Core.List.{List}
+use base.Fml.{Lft}
+use denote.Ref.{RefT, now}
 use Prim.Native.Nat.{ℕ}
 use Rattle.board.specs.declared.Node.{Node}
 use Rattle.board.proofs.blank_node.Reads as blank-node
 use Rattle.board.proofs.joined_node.Reads as joined-node
+use Rattle.board.proofs.version_of.Reads as version-of
+use Rattle.board.proofs.with_byte.Reads as with-byte
+use Rattle.board.proofs.mark.Reads as mark
+use Rattle.board.proofs.has_old.Reads as has-old
+use Rattle.board.proofs.too_many_with.Reads as too-many-with
 use Rattle.board.proofs.owe.Reads as owe
 use Rattle.board.proofs.unmarked.Reads as unmarked
 use Rattle.board.proofs.heard.Reads as heard
@@ -16,7 +24,7 @@ use Rattle.board.proofs.indexed.Reads as indexed
 use Rattle.board.proofs.counted.Reads as counted
 use Rattle.board.proofs.lowest_mac.Reads as lowest-mac
 use Rattle.board.proofs.mac_at.Reads as mac-at
-use Rattle.board.proofs.index_at.Reads as index-at
+use Rattle.board.proofs.byte_at.Reads as byte-at
 use Rattle.board.proofs.next_listed.Reads as next-listed
 use Rattle.board.proofs.index_of.Reads as index-of
 
@@ -25,6 +33,9 @@ unique-blank-node a s t r q p p′ = p ∙ sym p′
 
 pub unique-joined-node : (a s t : _) (r q : Node) → joined-node.Post tt a r s → joined-node.Post tt a q t → r ≡ q
 unique-joined-node a s t r q p p′ = p ∙ sym p′
+
+pub unique-version-of : (a s t : _) (r q : ℕ) → version-of.Post tt a r s → version-of.Post tt a q t → r ≡ q
+unique-version-of a s t r q p p′ = p ∙ sym p′
 
 pub unique-owe : (a s t : _) (r q : Node) → owe.Post tt a r s → owe.Post tt a q t → r ≡ q
 unique-owe a s t r q p p′ = p ∙ sym p′
@@ -53,8 +64,20 @@ unique-indexed a s t r q p p′ = p ∙ sym p′
 pub unique-counted : (a s t : _) (r q : ℕ) → counted.Post tt a r s → counted.Post tt a q t → r ≡ q
 unique-counted a s t r q p p′ = p ∙ sym p′
 
-pub unique-index-at : (κs a s t : _) (r q : ℕ) → index-at.Post κs a r s → index-at.Post κs a q t → r ≡ q
-unique-index-at κs a s t r q p p′ = p ∙ sym p′
+pub unique-byte-at : (κs a s t : _) (r q : ℕ) → byte-at.Post κs a r s → byte-at.Post κs a q t → r ≡ q
+unique-byte-at κs a s t r q p p′ = p ∙ sym p′
+
+pub unique-with-byte : (κs a s t : _) (r q : List ℕ) → with-byte.Post κs a r s → with-byte.Post κs a q t → r ≡ q
+unique-with-byte κs a s t r q p p′ = p ∙ sym p′
+
+pub unique-mark : (κs : _) (a s t : RefT (List ℕ) × (ℕ × Unit {0})) (r q : Bool) → mark.Post κs a r s → mark.Post κs a q t → (r ≡ q) × (now (s .0) ≡ now (t .0))
+unique-mark κs a s t r q p p′ = (p .0 ∙ sym (p′ .0), p .1 ∙ sym (p′ .1))
+
+pub unique-has-old : (κs a s t : _) (r q : Bool) → has-old.Post κs a r s → has-old.Post κs a q t → r ≡ q
+unique-has-old κs a s t r q p p′ = p ∙ sym p′
+
+pub unique-too-many-with : (κs : Lft × (Lft × Unit {0})) (a s t : _) (r q : Bool) → too-many-with.Post κs a r s → too-many-with.Post κs a q t → r ≡ q
+unique-too-many-with κs a s t r q p p′ = p ∙ sym p′
 
 pub unique-lowest-mac : (κs a s t : _) (r q : ℕ) → lowest-mac.Post κs a r s → lowest-mac.Post κs a q t → r ≡ q
 unique-lowest-mac κs a s t r q p p′ = p ∙ sym p′

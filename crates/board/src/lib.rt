@@ -1,12 +1,15 @@
 // The boards that the panel knows: a record for each of forty positions, and what the steps ask about them.
 // A position is a number from 1 on; position 0 and those past the table name nobody, and hold the blank record.
 ghost use mathlib.Core.Path.{_≡_};
+ghost use mathlib.Core.List.{_∷_};
+ghost use lib.ListN.{set};
 ghost use Prim.Native.Nat.{_+_, _≤_, _<_, min};
-ghost use Rattle.ground.specs.Below.{one, firstOr, upFrom};
-ghost use Rattle.board.specs.Node.{none};
+ghost use Rattle.ground.specs.Below.{one, among, firstOr, upFrom};
+ghost use Rattle.board.specs.Node.{none, versionOf};
 ghost use Rattle.board.specs.Table.{listedAt};
 ghost use Rattle.board.specs.declared.Wanted.the-variants.{Kind};
-ghost use Rattle.board.specs.Columns.{typedAs, typed, lowestIn, columnAt};
+ghost use Rattle.board.specs.Columns.{typedAs, typed, lowestIn, columnAt, columnWith, forty};
+ghost use Rattle.board.specs.Types.{typeCount, manyIn, isUnmarked};
 ghost use Rattle.board.specs.Change.{joinedNode, owe, unmarked, heard, missed, renewed};
 ghost use Rattle.board.specs.Index.{indexed};
 ghost use Rattle.board.specs.Wanted.{wants, wantedAt, lowestOf, ofKindBelow, indexOf};
@@ -16,7 +19,7 @@ use ground::one_if;
 
 // What the panel knows of the board at one position. `owed` is 1 where the node list is owed to it, else 0: what a host
 // lends holds numbers only, so that every bit pattern has a meaning. `index` is how many lower listed positions are of its
-// type; 0 where nobody is listed.
+// type, `version` 1 of a 1.0 board and 2 of a later one; both are 0 where nobody is listed.
 #[repr(C)]
 pub struct Node {
     pub kind: u8,
@@ -25,6 +28,7 @@ pub struct Node {
     pub misses: u8,
     pub owed: u8,
     pub index: u8,
+    pub version: u8,
 }
 
 // The records of positions 1 to 40.
@@ -54,13 +58,24 @@ pub fn blank_node() -> Node
         misses: 0,
         owed: 0,
         index: 0,
+        version: 0,
     }
+}
+
+// The version of a record by the one that a join gives.
+pub fn version_of(version: u8) -> u8
+    ensures { λ r. ⌜ r ≡ versionOf version ⌝ }
+{
+    if version == 1 {
+        return 1;
+    }
+    2
 }
 
 // The record of a board that joins, for the first time or again. The list is owed to all afterwards, this board included,
 // and every index is counted anew.
-pub fn joined_node(kind: u8, mac: u64, session: u64) -> Node
-    ensures { λ r. ⌜ r ≡ joinedNode kind mac session ⌝ }
+pub fn joined_node(kind: u8, mac: u64, session: u64, version: u8) -> Node
+    ensures { λ r. ⌜ r ≡ joinedNode kind mac session version ⌝ }
 {
     Node {
         kind: kind,
@@ -69,6 +84,7 @@ pub fn joined_node(kind: u8, mac: u64, session: u64) -> Node
         misses: 0,
         owed: 0,
         index: 0,
+        version: version_of(version),
     }
 }
 
@@ -242,17 +258,31 @@ pub fn index_of(kinds: &[u8; 40], position: usize) -> usize
     0
 }
 
-// The stored index at a position; 0 at position 0 and past the table.
-pub fn index_at(indexes: &[u8; 40], position: usize) -> u8
-    ensures { λ r. ⌜ r ≡ columnAt (now (indexes .entry)) position ⌝ }
+// What a column of bytes, the stored indexes or the versions, holds at a position; 0 at position 0 and past the table.
+pub fn byte_at(column: &[u8; 40], position: usize) -> u8
+    ensures { λ r. ⌜ r ≡ columnAt (now (column .entry)) position ⌝ }
 {
     if 0 < position {
         if position <= 40 {
             let i = position - 1;
-            return indexes[i];
+            return column[i];
         }
     }
     0
+}
+
+// A column of bytes with another value at a position; as it was at position 0 and past the table.
+pub fn with_byte(column: &[u8; 40], position: usize, value: u8) -> [u8; 40]
+    ensures { λ r. ⌜ r ≡ columnWith (now (column .entry)) position value ⌝ }
+{
+    let mut after = *column;
+    if 0 < position {
+        if position <= 40 {
+            let i = position - 1;
+            after[i] = value;
+        }
+    }
+    after
 }
 
 // The lowest position from 1 to the limit that has a MAC; 0 for none.
@@ -283,4 +313,61 @@ pub fn mac_at(macs: &[u64; 40], position: usize) -> u64
         }
     }
     0
+}
+
+// Whether a type is met for the first time, by the marks of those met before; it is marked now. Nobody is of type 0. That a
+// type is a byte is told to the caller, who has a column of them.
+pub fn mark(marks: &mut [u8; 256], kind: u8) -> bool
+    ensures { λ r. ⌜ (r ≡ isUnmarked (now (marks .entry)) kind) × (now (marks .exit) ≡ set (now (marks .entry)) kind 1) × (kind < 256) ⌝ }
+{
+    let k = kind as usize;
+    let before = marks[k];
+    marks[k] = 1;
+    (kind != 0) & (before == 0)
+}
+
+// Whether a column of versions has a 1.0 board's.
+pub fn has_old(versions: &[u8; 40]) -> bool
+    ensures { λ r. ⌜ r ≡ among 1 (forty (now (versions .entry))) ⌝ }
+{
+    let mut old = false;
+    let mut i: usize = 0;
+    while i < 40 {
+        old = old | (1 == versions[i]);
+        i += 1;
+    }
+    old
+}
+
+// How many different types there are, this one and those of a column.
+fn type_count(kind: u8, kinds: &[u8; 40]) -> usize
+    ensures { λ r. ⌜ r ≡ typeCount (kind ∷ forty (now (kinds .entry))) ⌝ }
+{
+    let mut marks = [0u8; 256];
+    let mut n = one_if(mark(&mut marks, kind));
+    let mut i: usize = 0;
+    while i < 40 {
+        n += one_if(mark(&mut marks, kinds[i]));
+        i += 1;
+    }
+    n
+}
+
+// Whether a 1.0 board is listed with more than 15 types, among a board of this type and version and those of the columns but
+// for the one at a position, 0 for none. The types are counted only where there is a 1.0 board.
+pub fn too_many_with(
+    kinds: &[u8; 40],
+    versions: &[u8; 40],
+    but: usize,
+    kind: u8,
+    version: u8,
+) -> bool
+    ensures { λ r. ⌜ r ≡ manyIn (now (kinds .entry)) (now (versions .entry)) but kind version ⌝ }
+{
+    let theirs = with_byte(versions, but, 0);
+    if (1 == version) | has_old(&theirs) {
+        let others = with_byte(kinds, but, 0);
+        return 15 < type_count(kind, &others);
+    }
+    false
 }

@@ -34,7 +34,7 @@ edited Cleared n = none
 edited Unmarked n = unmarked n
 edited Heard n = heard n
 edited (Renewed session) n = renewed (heard n) session
-edited (Joined kind mac session) n = joinedNode kind mac session
+edited (Joined kind mac session version) n = joinedNode kind mac session version
 
 -- the payload that is kept is padded with zeros to the 240 places that hold it
 abbrev pub keptBytes : List ℕ → List ℕ

@@ -29,7 +29,7 @@ pub enum Edit {
     Unmarked,
     Heard,
     Renewed(u64),
-    Joined(u8, u64, u64),
+    Joined(u8, u64, u64, u8),
 }
 
 // What becomes of the coordinator: it stays, it is in another phase, a board was offered the bus, joins are held, it is at
@@ -70,7 +70,9 @@ pub fn edited(edit: Edit, node: Node) -> Node
         Edit::Unmarked => n = board::unmarked(node),
         Edit::Heard => n = board::heard(node),
         Edit::Renewed(session) => n = board::renewed(board::heard(node), session),
-        Edit::Joined(kind, mac, session) => n = board::joined_node(kind, mac, session),
+        Edit::Joined(kind, mac, session, version) => {
+            n = board::joined_node(kind, mac, session, version)
+        }
     }
     n
 }

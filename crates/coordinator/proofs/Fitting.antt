@@ -12,7 +12,7 @@ use Rattle.ground.proofs.Choices.{and-left, and-right, both, or-left, or-right,
 use Rattle.ground.proofs.Loops.{some-of}
 use Rattle.board.specs.declared.Node.{Node}
 use Rattle.board.specs.declared.Wanted.the-variants.{Listed as ListedOnes}
-use Rattle.board.specs.Node.{isKind, isMac}
+use Rattle.board.specs.Node.{isKind, isMac, isVersion}
 use Rattle.board.specs.Table.{at, listedAt}
 use Rattle.board.specs.Wanted.{lowestOf, someListed}
 use Rattle.board.proofs.Positions.{listed-within}
@@ -21,7 +21,7 @@ use Rattle.setup.specs.Setup.{setupFits}
 use Rattle.setup.specs.Fit.{tableFits}
 use Rattle.setup.specs.Fitness.{Position, Listed}
 use Rattle.setup.proofs.Pools.{mac-told, mac-passes, setup-told, setup-passes}
-use Rattle.setup.proofs.Tables.{table-told, table-passes}
+use Rattle.setup.proofs.Tables.{table-told, table-passes, version-told, version-passes}
 use Rattle.coordinator.specs.declared.Exchange.{Exchange}
 use Rattle.coordinator.specs.declared.Exchange.the-variants.{Offer, List as Listing, Forward, Return}
 use Rattle.coordinator.specs.declared.Part.{Part}
@@ -139,14 +139,18 @@ found-told f h =
     record {
       listed = eqb-false (f .kind) 0 (not-true (eqb (f .kind) 0) (and-left (not (eqb (f .kind) 0)) (not (eqb (f .kind) 165)) one));
       kind = eqb-false (f .kind) 165 (not-true (eqb (f .kind) 165) (and-right (not (eqb (f .kind) 0)) (not (eqb (f .kind) 165)) one));
-      mac = mac-told (f .mac) (and-right (isKind (f .kind)) (isMac (f .mac)) h);
+      mac = mac-told (f .mac) (and-right (isKind (f .kind)) (isMac (f .mac)) two);
+      version = version-told (f .version) (and-right (isKind (f .kind) && isMac (f .mac)) (isVersion (f .version)) h);
     }
   where
+    two : (isKind (f .kind) && isMac (f .mac)) ≡ true
+    two = and-left (isKind (f .kind) && isMac (f .mac)) (isVersion (f .version)) h
+
     one : isKind (f .kind) ≡ true
-    one = and-left (isKind (f .kind)) (isMac (f .mac)) h
+    one = and-left (isKind (f .kind)) (isMac (f .mac)) two
 
 pub found-passes : (f : Found) → Discovered f → isFound f ≡ true
-found-passes f d = both _ _ (both _ _ (not-yes (eqb (f .kind) 0) (ne-eqb (f .kind) 0 (d .listed))) (not-yes (eqb (f .kind) 165) (ne-eqb (f .kind) 165 (d .kind)))) (mac-passes (f .mac) (d .mac))
+found-passes f d = both _ _ (both _ _ (both _ _ (not-yes (eqb (f .kind) 0) (ne-eqb (f .kind) 0 (d .listed))) (not-yes (eqb (f .kind) 165) (ne-eqb (f .kind) 165 (d .kind)))) (mac-passes (f .mac) (d .mac))) (version-passes (f .version) (d .version))
 
 part-told : (part : Part) (f : Found) → partFits part f ≡ true → FoundFor part f
 part-told Search f h = tt

@@ -34,6 +34,7 @@ blank-fits k =
             blank = λ p e. blank-at p;
           };
       numbered = λ p. ap (λ (n : Node). n .index) (blank-at p) ∙ index-nobody blankTable p (free p);
+      types = λ p old. absurd (let z : ⊥ = omega (arith, ap (λ (n : Node). n .version) (blank-at p), old) in z);
     }
   where
     free : (p : ℕ) → at blankTable p .kind ≡ 0

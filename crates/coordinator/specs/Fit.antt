@@ -5,7 +5,7 @@ use mathlib.Core.List.{List}
 use lib.ListN.{length}
 use lib.Dec.{eqb, leb, ltb}
 use Rattle.board.specs.declared.Node.{Node}
-use Rattle.board.specs.Node.{isKind, isMac}
+use Rattle.board.specs.Node.{isKind, isMac, isVersion}
 use Rattle.board.specs.Table.{listedAt}
 use Rattle.board.specs.Wanted.{someListed}
 use Rattle.setup.specs.Setup.{setupFits}
@@ -45,9 +45,9 @@ phaseFits (ReturnDue board) t m = listedAt t board && isResponse m
 phaseFits (Seeking position part) t m = true
 phaseFits Unknown t m = false
 
--- what was discovered is within the ranges of a record's type and MAC (02, C-11)
+-- what was discovered is within the ranges of a record's type, MAC and version (02, C-11 and C-15)
 abbrev pub isFound : Found → Bool
-isFound f = isKind (f .kind) && isMac (f .mac)
+isFound f = isKind (f .kind) && isMac (f .mac) && isVersion (f .version)
 
 -- when it is needed: from the discovery's response to the end of the exchange (02, C-11)
 abbrev pub partFits : Part → Found → Bool

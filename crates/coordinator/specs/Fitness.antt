@@ -55,11 +55,12 @@ KeptFor (ReturnDue board) m = Response m
 KeptFor (Seeking position part) m = Unit {0}
 KeptFor Unknown m = Unit {0}
 
--- what was discovered is within the ranges: a type that is neither 0 nor 165, a MAC (02, C-11)
+-- what was discovered is within the ranges: a type that is neither 0 nor 165, a MAC (02, C-11), version 1 or 2 (02, C-15)
 pub record Discovered (f : Found) : Type 0 where
   pub listed : f .kind ≡ 0 → ⊥
   pub kind : f .kind ≡ 165 → ⊥
   pub mac : Mac (f .mac)
+  pub version : (f .version ≡ 1) ⊎ (f .version ≡ 2)
 
 -- when it is needed: from the discovery's response to the end of the exchange (02, C-11)
 abbrev pub FoundFor : Part → Found → Type 0

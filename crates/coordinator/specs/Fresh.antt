@@ -16,7 +16,7 @@ blankKept = record { message = 0; packet = 0; kind = 0; method = 0; parameter = 
 
 -- nothing is discovered: all zeros (house)
 abbrev pub blankFound : Found
-blankFound = record { kind = 0; mac = 0; session = 0 }
+blankFound = record { kind = 0; version = 0; mac = 0; session = 0 }
 
 -- nobody was offered the bus yet, so that the first offer begins at 1; joins are not held, no discovery was started, nothing is waited for or due (01, "A fresh start begins at 1")
 abbrev pub fresh : Setup → Coordinator

@@ -71,10 +71,11 @@ pub struct Kept {
     pub payload: [u8; 240],
 }
 
-// What was discovered: type, MAC and session, from the discovery's response to the end of the exchange.
+// What was discovered: type, version, MAC and session, from the discovery's response to the end of the exchange.
 #[repr(C)]
 pub struct Found {
     pub kind: u8,
+    pub version: u8,
     pub mac: u64,
     pub session: u64,
 }
@@ -238,6 +239,7 @@ fn blank_found() -> Found
 {
     Found {
         kind: 0,
+        version: 0,
         mac: 0,
         session: 0,
     }

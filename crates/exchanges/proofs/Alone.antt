@@ -67,7 +67,7 @@ module _ (c₀ c : Coordinator) (t : List Node) (p q : ℕ) (f : Found) (part : 
   -- whatever comes in a part
   step-of : (e : Event) → isAccepted (stepOf c t e b room .says) ≡ true → Of e (stepOf c t e b room)
   unfolding joinOf turnIn receiveIn quietIn discoverOf
-  step-of (Join kind mac session) = by-accepted c t (Of (Join kind mac session)) (joinRules c t kind mac) _ (λ passed _. absurd (false≢true (sym (passed .1 .1 .1 .0) ∙ busy c₀ c t p q f part k)))
+  step-of (Join kind mac session version) = by-accepted c t (Of (Join kind mac session version)) (joinRules c t kind mac version) _ (λ passed _. absurd (false≢true (sym (passed .1 .1 .1 .0) ∙ busy c₀ c t p q f part k)))
   step-of Turn = rw (k .phase) (by-accepted c t (Of Turn) (turnRules (Seeking p part) c t room) (sent (dueSeek part c t p)) (λ passed _. due-of (passed .1 .0)))
   step-of Frame = rw (k .phase) (by-accepted c t (Of Frame) (receiveRules (Seeking p part) c t b) (soughtIn part p c t (headerOf b) (payload b) room) (λ passed _. answered-of (soughtIn part p c t (headerOf b) (payload b) room) (and-left (isWaiting part) (eqb (headerOf b .source) (sourceIn part (c .setup) p)) (admitted (Seeking p part) c t b passed .awaited))))
   step-of Quiet = rw (k .phase) (by-accepted c t (Of Quiet) (quietRules (Seeking p part) c t) (quietInSeek part p c t) (λ passed _. answered-of (quietInSeek part p c t) (not-false (isWaiting part) (passed .1 .0))))

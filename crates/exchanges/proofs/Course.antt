@@ -46,7 +46,7 @@ abbrev pub Knows : Part → Coordinator → List Node → ℕ → ℕ → Found 
 Knows Search c t p q f = Unit {0}
 Knows IdentifyDue c t p q f = Takes c t p f
 Knows Identify c t p q f = (q ≡ p) × Takes c t p f
-Knows Present c t p q f = q ≡ p
+Knows Present c t p q f = (q ≡ p) × (f ≡ c .found)
 Knows AssignDue c t p q f = Takes c t p f
 Knows Assign c t p q f = (q ≡ p) × Takes c t p f
 
@@ -69,7 +69,7 @@ pub record Joined (c₀ : Coordinator) (x : Course) (w : World) : Type 0 where
   pub wait : x .wait ≡ 0
   pub steps : x .steps ≤ 6
   pub joins : x .joins ≡ 1
-  pub world : w ≡ left (joinOf (before c₀) (x .nodes) (x .who .kind) (x .who .mac) (x .who .session))
+  pub world : w ≡ left (joinOf (before c₀) (x .nodes) (x .who .kind) (x .who .mac) (x .who .session) (x .who .version))
 
 -- it is in one of the three
 pub data Reach (c₀ : Coordinator) : Course → World → Type 0 where

@@ -50,9 +50,9 @@ other-fails true b h e = sym h ∙ e
 other-fails false b h e = refl
 
 -- a join, taken or refused
-pub join-remembers : (c : Coordinator) (t : List Node) (kind mac session : ℕ) → Remembers c (joinOf c t kind mac session)
+pub join-remembers : (c : Coordinator) (t : List Node) (kind mac session version : ℕ) → Remembers c (joinOf c t kind mac session version)
 unfolding joinOf
-join-remembers c t kind mac session = by-refusals c t (Remembers c) (joinRules c t kind mac) _ (λ r. refl) (λ _. refl)
+join-remembers c t kind mac session version = by-refusals c t (Remembers c) (joinRules c t kind mac version) _ (λ r. refl) (λ _. refl)
 
 module _ (c : Coordinator) (t : List Node) where
   -- an ACK leaves it, in each exchange
@@ -73,15 +73,15 @@ module _ (c : Coordinator) (t : List Node) where
 
   -- a response that ends the exchange by which a board joins
   settled-remembers : (position : ℕ) (f : Found) (room : ℕ) → Remembers c (settled c t position f room)
-  settled-remembers position f room = by-choice (Remembers c) (ltb room 29) _ _ (λ _. refl) (λ _. by-choice (Remembers c) (eqb (joinFound c t f .joined) position) _ _ (λ _. join-remembers (ended c) t (f .kind) (f .mac) (f .session)) (λ _. refl))
+  settled-remembers position f room = by-choice (Remembers c) (ltb room 29) _ _ (λ _. refl) (λ _. by-choice (Remembers c) (eqb (joinFound c t f .joined) position) _ _ (λ _. join-remembers (ended c) t (f .kind) (f .mac) (f .session) (f .version)) (λ _. refl))
 
   -- and whatever that exchange takes
-  replied-remembers : (x : Reply) (position : ℕ) (p : List ℕ) (room : ℕ) → Remembers c (repliedAs x position c t p room)
-  replied-remembers Discovered position p room = by-choice (Remembers c) _ _ _ (λ _. refl) (λ _. refl)
-  replied-remembers AckCame position p room = refl
-  replied-remembers Identified position p room = settled-remembers position _ room
-  replied-remembers Assigned position p room = settled-remembers position _ room
-  replied-remembers (NotTaken r) position p room = refl
+  replied-remembers : (x : Reply) (position packet : ℕ) (p : List ℕ) (room : ℕ) → Remembers c (repliedAs x position c t packet p room)
+  replied-remembers Discovered position packet p room = by-choice (Remembers c) _ _ _ (λ _. refl) (λ _. refl)
+  replied-remembers AckCame position packet p room = refl
+  replied-remembers Identified position packet p room = settled-remembers position _ room
+  replied-remembers Assigned position packet p room = settled-remembers position _ room
+  replied-remembers (NotTaken r) position packet p room = refl
 
   -- a frame in any phase
   in-remembers : (phase : Phase) (h : Header) (p : List ℕ) (room : ℕ) → Remembers c (takenIn phase c t h p room)
@@ -89,7 +89,7 @@ module _ (c : Coordinator) (t : List Node) where
   in-remembers (Awaiting board exchange requester acked) h p room = taken-remembers (heardIn exchange board acked c t h p) exchange board requester h p room
   in-remembers (ForwardDue board requester) h p room = refl
   in-remembers (ReturnDue board) h p room = refl
-  in-remembers (Seeking position part) h p room = replied-remembers (replyIn part position c h p) position p room
+  in-remembers (Seeking position part) h p room = replied-remembers (replyIn part position c h p) position (h .packet) p room
   in-remembers Unknown h p room = refl
 
   -- a frame, taken or refused

@@ -55,7 +55,7 @@ unfolding discoverOf choose
 begins w d = go (d .event)
   where
     go : (e : Event) → isDiscover e ≡ true → isAccepted (stepOf (w .coordinator) (w .nodes) e (d .received) (d .room) .says) ≡ true → Reach (w .coordinator) (begun (stepOf (w .coordinator) (w .nodes) e (d .received) (d .room)) (w .nodes)) (left (stepOf (w .coordinator) (w .nodes) e (d .received) (d .room)))
-    go (Join kind mac session) n = absurd (false≢true n)
+    go (Join kind mac session version) n = absurd (false≢true n)
     go Turn n = absurd (false≢true n)
     go Frame n = absurd (false≢true n)
     go Quiet n = absurd (false≢true n)
@@ -98,9 +98,9 @@ six (joined r) = r .steps
 
 module _ {c₀ c : Coordinator} {t : List Node} {p q : ℕ} {f : Found} (fit : fits c t ≡ true) where
   -- in every part any other join gets 14
-  join-busy : {part : Part} → Stands c₀ part c t p q f → (kind mac session : ℕ) → isKind kind ≡ true → isMac mac ≡ true → joinOf c t kind mac session ≡ refused c t Busy
+  join-busy : {part : Part} → Stands c₀ part c t p q f → (kind mac session version : ℕ) → isKind kind ≡ true → isMac mac ≡ true → joinOf c t kind mac session version ≡ refused c t Busy
   unfolding joinOf
-  join-busy {part} k kind mac session one own =
+  join-busy {part} k kind mac session version one own =
       sym (choose-no _ _ _ _ (not-no (fits c t) fit) (choose-no _ _ _ _ (not-no (isKind kind) one) (choose-no _ _ _ _ (not-no (isMac mac) own) (choose-yes _ _ _ _ (busy c₀ c t p q f part k) refl))))
 
   -- a turn that is lent room for a frame goes on with what is due
@@ -115,14 +115,14 @@ module _ {c₀ c : Coordinator} {t : List Node} {p q : ℕ} {f : Found} (fit : f
   stands-runs IdentifyDue k = ap (λ (a : After). isSeek (waitsIn (a .says))) (due-goes k refl (omega arith))
   stands-runs Identify k = refl
   stands-runs Present k = refl
-  stands-runs AssignDue k = ap (λ (a : After). isSeek (waitsIn (a .says))) (due-goes k refl (assignment-small (c .setup) p (c .found .mac) (c .found .session)))
+  stands-runs AssignDue k = ap (λ (a : After). isSeek (waitsIn (a .says))) (due-goes k refl (assignment-small (c .setup) p (c .found .version) (c .found .mac) (c .found .session)))
   stands-runs Assign k = refl
 
 -- so while it runs any other join does
-busy-while : {c₀ : Coordinator} {x : Course} {w : World} → Reach c₀ x w → isFit w ≡ true → isRunning ours w x ≡ true → (kind mac session : ℕ) → isKind kind ≡ true → isMac mac ≡ true → ours .step w (joinWith kind mac session) .says ≡ refuses Busy
-busy-while (going part c t p q f k) fit n kind mac session one own = ap (λ (a : After). a .says) (join-busy fit k kind mac session one own)
-busy-while (over r) fit n kind mac session one own = absurd (runs-no-more _ _ (over-rests r) n)
-busy-while (joined r) fit n kind mac session one own = absurd (runs-no-more _ _ (joined-rests r) n)
+busy-while : {c₀ : Coordinator} {x : Course} {w : World} → Reach c₀ x w → isFit w ≡ true → isRunning ours w x ≡ true → (kind mac session version : ℕ) → isKind kind ≡ true → isMac mac ≡ true → ours .step w (joinWith kind mac session version) .says ≡ refuses Busy
+busy-while (going part c t p q f k) fit n kind mac session version one own = ap (λ (a : After). a .says) (join-busy fit k kind mac session version one own)
+busy-while (over r) fit n kind mac session version one own = absurd (runs-no-more _ _ (over-rests r) n)
+busy-while (joined r) fit n kind mac session version one own = absurd (runs-no-more _ _ (joined-rests r) n)
 
 -- over without a join it has left what was there
 left-as-was : {c₀ : Coordinator} {x : Course} {w : World} → Reach c₀ x w → isFit w ≡ true → isRunning ours w x ≡ false → x .joins ≡ 0 → w ≡ record { coordinator = before c₀; nodes = x .nodes }
@@ -131,7 +131,7 @@ left-as-was (over r) fit n z = r .world
 left-as-was (joined r) fit n z = absurd (let y : ⊥ = omega (arith, r .joins) in y)
 
 -- with a join it has left what 01's join of who answered leaves, and has no other
-left-joined : {c₀ : Coordinator} {x : Course} {w : World} → Reach c₀ x w → 1 ≤ x .joins → (x .joins ≡ 1) × (w ≡ left (joinOf (before c₀) (x .nodes) (x .who .kind) (x .who .mac) (x .who .session)))
+left-joined : {c₀ : Coordinator} {x : Course} {w : World} → Reach c₀ x w → 1 ≤ x .joins → (x .joins ≡ 1) × (w ≡ left (joinOf (before c₀) (x .nodes) (x .who .kind) (x .who .mac) (x .who .session) (x .who .version)))
 left-joined (going part c t p q f k) l = absurd (let y : ⊥ = omega arith in y)
 left-joined (over r) l = absurd (let y : ⊥ = omega (arith, r .joins) in y)
 left-joined (joined r) l = (r .joins, r .world)
@@ -140,13 +140,13 @@ left-joined (joined r) l = (r .joins, r .world)
 assign-joins : {c₀ c : Coordinator} {t : List Node} {p q : ℕ} {f : Found} → Stands c₀ Assign c t p q f → (b : List ℕ) (room : ℕ) → isAccepted (receiveOf c t b room .says) ≡ true → receiveOf c t b room .joined ≡ q
 unfolding receiveIn
 assign-joins {c₀} {c} {t} {p} {q} {f} k b room =
-    rw (k .phase) (by-accepted c t (λ a. a .joined ≡ q) (receiveRules (Seeking p Assign) c t b) (soughtIn Assign p c t (headerOf b) (payload b) room) (λ _. assign-replied (λ r. isAccepted (repliedAs r p c t (payload b) room .says) ≡ true → repliedAs r p c t (payload b) room .joined ≡ q) (never-accepted c t UnexpectedType) (headerOf b .message) _ (never-accepted c t BadEcho) (λ _ _. echo)))
+    rw (k .phase) (by-accepted c t (λ a. a .joined ≡ q) (receiveRules (Seeking p Assign) c t b) (soughtIn Assign p c t (headerOf b) (payload b) room) (λ _. assign-replied (λ r. isAccepted (repliedAs r p c t (headerOf b .packet) (payload b) room .says) ≡ true → repliedAs r p c t (headerOf b .packet) (payload b) room .joined ≡ q) (never-accepted c t UnexpectedType) (headerOf b .message) _ (never-accepted c t BadEcho) (λ _ _. echo)))
   where
     same : joinFound c t (c .found) .joined ≡ p
     same = found-takes c t p f (k .knows .1)
 
     echo : isAccepted (settled c t p (c .found) room .says) ≡ true → settled c t p (c .found) room .joined ≡ q
-    echo = by-choice (λ (a : After). isAccepted (a .says) ≡ true → a .joined ≡ q) (ltb room 29) _ _ (λ _. never-accepted c t NoRoom) (λ _ _. by-choice (λ (a : After). acknowledged (c .setup) p a .joined ≡ q) (eqb (joinFound c t (c .found) .joined) p) _ _ (λ _. same ∙ sym (k .knows .0)) (λ n. absurd (eqb-false (joinFound c t (c .found) .joined) p n same)))
+    echo = by-choice (λ (a : After). isAccepted (a .says) ≡ true → a .joined ≡ q) (ltb room 29) _ _ (λ _. never-accepted c t NoRoom) (λ _ _. by-choice (λ (a : After). acknowledged (c .setup) p (c .found .version) a .joined ≡ q) (eqb (joinFound c t (c .found) .joined) p) _ _ (λ _. same ∙ sym (k .knows .0)) (λ n. absurd (eqb-false (joinFound c t (c .found) .joined) p n same)))
 
 -- so one that waits in assign does
 joins-then : {c₀ : Coordinator} {x : Course} {w : World} → Reach c₀ x w → x .wait ≡ 7 → (i : Input) → isFrame (i .event) ≡ true → isAccepted (ours .step w i .says) ≡ true → ours .step w i .joined ≡ x .position
@@ -158,7 +158,7 @@ joins-then (going AssignDue c t p q f k) e i n a = absurd (let y : ⊥ = omega (
 joins-then (going Assign c t p q f k) e i n a = go (i .event) n a
   where
     go : (v : Event) → isFrame v ≡ true → isAccepted (stepOf c t v (i .received) (i .room) .says) ≡ true → stepOf c t v (i .received) (i .room) .joined ≡ q
-    go (Join kind mac session) m = absurd (false≢true m)
+    go (Join kind mac session version) m = absurd (false≢true m)
     go Turn m = absurd (false≢true m)
     go Frame m = assign-joins k (i .received) (i .room)
     go Quiet m = absurd (false≢true m)

@@ -60,16 +60,16 @@ module _ (c : Coordinator) (t : List Node) (rest : phaseOf (c .stand) ≡ Restin
   -- whatever comes at rest, no wait for an identity or an assignment begins
   step-waits : (e : Event) (b : List ℕ) (room : ℕ) → Waits 5 (stepOf c t e b room)
   unfolding joinOf receiveIn quietIn discoverOf choose
-  step-waits (Join kind mac session) b room = by-refusals c t (Waits 5) (joinRules c t kind mac) _ (refused-waits 5) (λ _. omega arith)
+  step-waits (Join kind mac session version) b room = by-refusals c t (Waits 5) (joinRules c t kind mac version) _ (refused-waits 5) (λ _. omega arith)
   step-waits Turn b room = omega (arith, turn-waits room)
   step-waits Frame b room = rw rest (by-refusals c t (Waits 5) (receiveRules Resting c t b) (refused c t NotAwaited) (refused-waits 5) (λ _. refused-waits 5 NotAwaited))
   step-waits Quiet b room = rw rest (by-refusals c t (Waits 5) (quietRules Resting c t) (refused c t NotWaiting) (refused-waits 5) (λ _. refused-waits 5 NotWaiting))
   step-waits Discover b room = by-refusals c t (Waits 5) (discoverRules c t room) _ (refused-waits 5) (λ _. omega arith)
 
 -- a join leaves the phase as it was
-join-stand : (c : Coordinator) (t : List Node) (kind mac session : ℕ) → joinOf c t kind mac session .coordinator .stand ≡ c .stand
+join-stand : (c : Coordinator) (t : List Node) (kind mac session version : ℕ) → joinOf c t kind mac session version .coordinator .stand ≡ c .stand
 unfolding joinOf
-join-stand c t kind mac session = by-refusals c t (λ a. a .coordinator .stand ≡ c .stand) (joinRules c t kind mac) _ (λ r. refl) (λ _. refl)
+join-stand c t kind mac session version = by-refusals c t (λ a. a .coordinator .stand ≡ c .stand) (joinRules c t kind mac version) _ (λ r. refl) (λ _. refl)
 
 -- the observer has no wait, and the panel rests
 pub record Rests (x : Course) (w : World) : Type 0 where
@@ -82,7 +82,7 @@ module _ {c₀ : Coordinator} {x : Course} {w : World} where
   over-rests o = record { wait = o .wait; phase = ap (λ (u : World). phaseOf (u .coordinator .stand)) (o .world) ∙ phase-back resting }
 
   pub joined-rests : Joined c₀ x w → Rests x w
-  joined-rests j = record { wait = j .wait; phase = ap (λ (u : World). phaseOf (u .coordinator .stand)) (j .world) ∙ ap phaseOf (join-stand (before c₀) (x .nodes) (x .who .kind) (x .who .mac) (x .who .session)) ∙ phase-back resting }
+  joined-rests j = record { wait = j .wait; phase = ap (λ (u : World). phaseOf (u .coordinator .stand)) (j .world) ∙ ap phaseOf (join-stand (before c₀) (x .nodes) (x .who .kind) (x .who .mac) (x .who .session) (x .who .version)) ∙ phase-back resting }
 
 module _ (x : Course) (w : World) (r : Rests x w) where
   -- no step is of the exchange

@@ -38,7 +38,7 @@ stepped : (w : World) (i : Input) → isFit w ≡ true → someListed (w .nodes)
 stepped w i fit someone = go (i .event)
   where
     go : (e : Event) → offeredTo (stepOf (w .coordinator) (w .nodes) e (i .received) (i .room) .says) ≡ 0 → Stepped w (stepOf (w .coordinator) (w .nodes) e (i .received) (i .room)) (isDiscover e && isAccepted (stepOf (w .coordinator) (w .nodes) e (i .received) (i .room) .says))
-    go (Join kind mac session) _ = other w _ (join-remembers (w .coordinator) (w .nodes) kind mac session)
+    go (Join kind mac session version) _ = other w _ (join-remembers (w .coordinator) (w .nodes) kind mac session version)
     go Turn n = other w _ (turn-remembers (w .coordinator) (w .nodes) fit someone (i .room) n)
     go Frame _ = other w _ (receive-remembers (w .coordinator) (w .nodes) (i .received) (i .room))
     go Quiet _ = other w _ (quieted-remembers (w .coordinator) (w .nodes))

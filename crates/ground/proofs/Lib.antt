@@ -5,6 +5,7 @@ pub mod Firsts
 pub mod Runs
 pub mod Highest
 pub mod Picks
+pub mod Members
 pub mod Fronts
 pub mod Laid
 pub mod Unique

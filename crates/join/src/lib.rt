@@ -10,7 +10,7 @@ use refusal::Refusal;
 use setup::Judged;
 ghost use mathlib.Core.Path.{_≡_};
 ghost use Rattle.board.specs.Node.{isKind};
-ghost use Rattle.look.specs.Seen.{OfMacs};
+ghost use Rattle.look.specs.Seen.{OfBoards};
 ghost use Rattle.steps.specs.Join.{isResting, joinOf};
 ghost use Rattle.change.specs.Decides.{Makes};
 ghost use Rattle.join.specs.Parts.{busyIn, chosenIn, Judges};
@@ -51,21 +51,21 @@ pub fn is_busy(state: State, owed: usize) -> bool
     !is_resting(phase) | (0 < owed)
 }
 
-// The position for a MAC: its own, or the lowest free one; 0 where there is none.
-fn chosen(kinds: &[u8; 40], macs: &[u64; 40], k: usize, mac: u64) -> usize
-    ensures { λ r. ⌜ r ≡ chosenIn (now (kinds .entry)) (now (macs .entry)) k mac ⌝ }
+// The position for a MAC: its own, or the lowest free one where that is 0; 0 where there is none.
+fn chosen(kinds: &[u8; 40], own: usize, k: usize) -> usize
+    ensures { λ r. ⌜ r ≡ chosenIn (now (kinds .entry)) own k ⌝ }
 {
-    let position = board::lowest_mac(macs, mac, k);
-    if 0 < position {
-        position
+    if 0 < own {
+        own
     } else {
         board::lowest(kinds, Wanted::Free, k)
     }
 }
 
-// What a join of fit records is refused for, in the order of the numbers: 12 to 16, with the position for the MAC.
-fn judge(seen: Seen, kind: u8, mac: u64, position: usize) -> Judged
-    ensures { λ r. ⌜ Judges seen kind mac position r ⌝ }
+// What a join of fit records is refused for, in the order of the rules: 12 to 15, 25 where there would be too many types,
+// 16 by the position for the MAC.
+fn judge(seen: Seen, kind: u8, mac: u64, version: u8, many: bool, position: usize) -> Judged
+    ensures { λ r. ⌜ Judges seen kind mac version many position r ⌝ }
 {
     let state = seen.state;
     if !is_kind(kind) {
@@ -80,29 +80,37 @@ fn judge(seen: Seen, kind: u8, mac: u64, position: usize) -> Judged
     if state.held == 1 {
         return Judged::Refused(Refusal::Held);
     }
+    if many {
+        return Judged::Refused(Refusal::TooManyTypes);
+    }
     if position == 0 {
         return Judged::Refused(Refusal::Full);
     }
     Judged::Fine
 }
 
-// A board joins, or joins again, perhaps as another type: its record begins anew. Every index is then counted anew, the list owed to every listed board, and further joins are held.
+// A board joins, or joins again, perhaps as another type or version: its record begins anew. Every index is then counted anew, the list owed to every listed board, and further joins are held.
 pub fn join(
     seen: Seen,
     kinds: &[u8; 40],
+    versions: &[u8; 40],
     macs: &[u64; 40],
     kind: u8,
     mac: u64,
     session: u64,
+    version: u8,
 ) -> Change
-    ensures { λ r. ⌜ Makes seen (OfMacs (now (kinds .entry)) (now (macs .entry))) (λ c t. joinOf c t kind mac session) r ⌝ }
+    ensures { λ r. ⌜ Makes seen (OfBoards (now (kinds .entry)) (now (versions .entry)) (now (macs .entry))) (λ c t. joinOf c t kind mac session version) r ⌝ }
 {
     let setup = seen.setup;
-    let position = chosen(kinds, macs, setup.k, mac);
-    match judge(seen, kind, mac, position) {
+    let own = board::lowest_mac(macs, mac, setup.k);
+    let joining = board::version_of(version);
+    let many = board::too_many_with(kinds, versions, own, kind, joining);
+    let position = chosen(kinds, own, setup.k);
+    match judge(seen, kind, mac, version, many, position) {
         Judged::Refused(refusal) => change::refusing(refusal),
         Judged::Fine => {
-            let edit = Edit::Joined(kind, mac, session);
+            let edit = Edit::Joined(kind, mac, session, version);
             change::resting(Move::Held, position, edit, true, position, 0)
         }
     }

@@ -18,7 +18,7 @@ pub step-keeps : (w : World) (i : Input) → Keeps (w .coordinator) (w .nodes) (
 step-keeps w i = go (i .event)
   where
     go : (e : Event) → Keeps (w .coordinator) (w .nodes) (stepOf (w .coordinator) (w .nodes) e (i .received) (i .room))
-    go (Join kind mac session) = join-keeps (w .coordinator) (w .nodes) kind mac session
+    go (Join kind mac session version) = join-keeps (w .coordinator) (w .nodes) kind mac session version
     go Turn = turn-keeps (w .coordinator) (w .nodes) (i .room)
     go Frame = receive-keeps (w .coordinator) (w .nodes) (i .received) (i .room)
     go Quiet = quiet-keeps (w .coordinator) (w .nodes)

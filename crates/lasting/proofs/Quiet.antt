@@ -28,7 +28,7 @@ use Rattle.coordinator.proofs.Fitting.{listed-told, awaited, fits-of, fits-setu
 use Rattle.coordinator.proofs.Changing.{with-phase-fits}
 use Rattle.steps.specs.After.{accepted, rests}
 use Rattle.steps.specs.Quiet.{droppedAt, missedAt, quietValue, quietRules, quietIn, quietOf}
-use Rattle.lasting.proofs.Tables.{missed-follows, clear-boards, relisted-fit}
+use Rattle.lasting.proofs.Tables.{missed-follows, clear-boards, clear-few, relisted-fit}
 use Rattle.lasting.proofs.Keeps.{Keeps, accepted-keeps, Stays, refused-keeps, rules-keep, put-stays, some-same, table-fit, phase-keeps}
 use Rattle.lasting.proofs.Seek.{seek-quiet-keeps}
 
@@ -49,7 +49,7 @@ module _ (c : Coordinator) (t : List Node) (h : fits c t ≡ true) (board : ℕ)
   dropped-fits held s = fits-of _ (relisted (put t board none)) (fit .boards .forty) (fits-setup c t h) (table-passes (c .setup .k) (relisted (put t board none)) fit) (rw (phase-back resting) refl) (rw (phase-back resting) refl) (fits-searched c t h) s (fits-last c t h)
     where
       fit : FitTable (c .setup .k) (relisted (put t board none))
-      fit = relisted-fit (c .setup .k) (put t board none) (clear-boards (c .setup .k) t (table-fit c t h) board (listed-told t board l))
+      fit = relisted-fit (c .setup .k) (put t board none) (clear-boards (c .setup .k) t (table-fit c t h) board (listed-told t board l)) (clear-few (c .setup .k) t (table-fit c t h) board (listed-told t board l))
 
   dropped-keeps : Keeps c t (droppedAt c t board)
   unfolding choose holdFits

@@ -53,7 +53,7 @@ module _ (c : Coordinator) (t : List Node) (h : fits c t ≡ true) (b : ℕ) (l 
   unfolding choose
   acking-keeps room says after same fit u = go (ltb room 29)
     where
-      go : (s : Bool) → Keeps c t (choose s (refused c t NoRoom) (accepted after (hear t b) says (signedFrame (c .setup) t b ackCode)))
+      go : (s : Bool) → Keeps c t (choose s (refused c t NoRoom) (accepted after (hear t b) says (signedFrame (c .setup) t b (at t b .version) ackCode)))
       go true = refused-keeps c t NoRoom refl
       go false = accepted-keeps c t _ fit same u
 
@@ -92,7 +92,7 @@ module _ (c : Coordinator) (t : List Node) (h : fits c t ≡ true) (f : Header) 
       route (fit, same) = acking-keeps c t h b l room transmits (routed c f p b (routeOf t (c .setup .k) b (f .method) (f .parameter1))) same fit refl
 
   taken-list : (b q : ℕ) (a : Bool) → listedAt t b ≡ true → Keeps c t (takenAs (heardIn Listing b a c t f p) Listing b q c t f p room)
-  taken-list b q a l = list-heard (λ x. Keeps c t (takenAs x Listing b q c t f p room)) (refused-keeps c t UnexpectedType refl) (f .message) (sameList (c .setup .internal) t p) (refused-keeps c t BadEcho refl) (acking-ends b l transmits refl)
+  taken-list b q a l = list-heard (λ x. Keeps c t (takenAs x Listing b q c t f p room)) (refused-keeps c t UnexpectedType refl) (f .message) (sameList (at t b .version) (c .setup .internal) t p) (refused-keeps c t BadEcho refl) (acking-ends b l transmits refl)
 
   taken-forward : (b q : ℕ) (a : Bool) → phaseOf (c .stand) ≡ Awaiting b Forward q a → Keeps c t (takenAs (heardIn Forward b a c t f p) Forward b q c t f p room)
   unfolding phaseFits

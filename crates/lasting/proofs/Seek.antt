@@ -1,5 +1,5 @@
 -- The exchange by which a board joins keeps fit, in a turn, a frame and a quiet.
-use Prim.Native.Nat.{ℕ}
+use Prim.Native.Nat.{ℕ, _/_, _%_}
 use mathlib.Core.Path.{_≡_, refl, sym}
 use mathlib.Core.Bool.{Bool, true, false, false≢true}
 use mathlib.Core.List.{List, []}
@@ -10,7 +10,8 @@ use Rattle.ground.proofs.Choices.{both}
 use Rattle.refusal.specs.declared.Refusal.the-variants.{NotAwaited, NotWaiting, UnexpectedType, BadEcho, NoRoom}
 use Rattle.frame.specs.declared.Header.{Header}
 use Rattle.board.specs.declared.Node.{Node}
-use Rattle.board.specs.Node.{isKind, isMac}
+use Rattle.board.specs.Node.{isKind, isMac, isVersion}
+use Rattle.setup.proofs.Tables.{version-is, version-passes}
 use Rattle.accept.specs.declared.Reply.{Reply}
 use Rattle.accept.specs.declared.Reply.the-variants.{Present as AckCame, Refused}
 use Rattle.accept.specs.Replies.{macAfter, heardInIdentify}
@@ -41,26 +42,26 @@ module _ (c : Coordinator) (t : List Node) (h : fits c t ≡ true) where
   over u s = phase-keeps (ended c) t (ended-fits c t h) u s (c .kept) at-rest refl refl
 
   -- what was found goes on where its join would be taken
-  answered-keeps : (f : Found) → Keeps c t (answered c t f)
+  answered-keeps : (f : Found) → isVersion (f .version) ≡ true → Keeps c t (answered c t f)
   unfolding choose
-  answered-keeps f = go (ltb 0 (joinFound c t f .joined)) refl
+  answered-keeps f told = go (ltb 0 (joinFound c t f .joined)) refl
     where
       found : Joined (ended c) (f .kind) (f .mac) (joinFound c t f .joined) → fits (finding c f (joinFound c t f .joined)) t ≡ true
-      found j = finding-fits c t h f (joinFound c t f .joined) (j .place) (both (isKind (f .kind)) (isMac (f .mac)) (j .isOne) (j .hasMac))
+      found j = finding-fits c t h f (joinFound c t f .joined) (j .place) (both _ _ (both (isKind (f .kind)) (isMac (f .mac)) (j .isOne) (j .hasMac)) told)
 
       go : (b : Bool) → ltb 0 (joinFound c t f .joined) ≡ b → Keeps c t (choose b (accepted (finding c f (joinFound c t f .joined)) t rests []) (accepted (ended c) t rests []))
-      go true e = accepted-keeps c t _ (found (join-taken (ended c) t (f .kind) (f .mac) (f .session) (ltb-true 0 (joinFound c t f .joined) e))) refl refl
+      go true e = accepted-keeps c t _ (found (join-taken (ended c) t (f .kind) (f .mac) (f .session) (f .version) (ltb-true 0 (joinFound c t f .joined) e))) refl refl
       go false e = accepted-keeps c t _ (ended-fits c t h) refl refl
 
   -- a response ends the exchange, with a join or without
-  outcome-keeps : (position : ℕ) (f : Found) → Keeps c t (acknowledged (c .setup) position (outcome c t position f))
+  outcome-keeps : (position : ℕ) (f : Found) → Keeps c t (acknowledged (c .setup) position (f .version) (outcome c t position f))
   unfolding choose
   outcome-keeps position f = go (eqb (joinFound c t f .joined) position)
     where
       joins : Keeps (ended c) t (joinFound c t f)
-      joins = join-keeps (ended c) t (f .kind) (f .mac) (f .session)
+      joins = join-keeps (ended c) t (f .kind) (f .mac) (f .session) (f .version)
 
-      go : (b : Bool) → Keeps c t (acknowledged (c .setup) position (choose b (joinFound c t f) (resting (ended c) (hearMac t position (f .mac)) 0 0)))
+      go : (b : Bool) → Keeps c t (acknowledged (c .setup) position (f .version) (choose b (joinFound c t f) (resting (ended c) (hearMac t position (f .mac)) 0 0)))
       go true = accepted-keeps c t _ (joins .fit (ended-fits c t h)) (joins .setup) refl
       go false = accepted-keeps c t _ (over (hearMac t position (f .mac)) (hear-mac-stays c t h position (f .mac))) refl refl
 
@@ -69,7 +70,7 @@ module _ (c : Coordinator) (t : List Node) (h : fits c t ≡ true) where
   unfolding choose
   settled-keeps position f room = go (ltb room 29)
     where
-      go : (b : Bool) → Keeps c t (choose b (refused c t NoRoom) (acknowledged (c .setup) position (outcome c t position f)))
+      go : (b : Bool) → Keeps c t (choose b (refused c t NoRoom) (acknowledged (c .setup) position (f .version) (outcome c t position f)))
       go true = refused-keeps c t NoRoom refl
       go false = outcome-keeps position f
 
@@ -85,7 +86,7 @@ module _ (c : Coordinator) (t : List Node) (h : fits c t ≡ true) where
   -- what a frame does in each wait
   module _ (position : ℕ) (hd : Header) (p : List ℕ) (room : ℕ) where
     abbrev Replied : Reply → Type 0
-    Replied r = Keeps c t (repliedAs r position c t p room)
+    Replied r = Keeps c t (repliedAs r position c t (hd .packet) p room)
 
     -- 7
     unexpected : Replied (Refused UnexpectedType)
@@ -98,11 +99,11 @@ module _ (c : Coordinator) (t : List Node) (h : fits c t ≡ true) where
 
     -- an ACK, or who has the address
     in-identify : (acked : Bool) → Stake position → Replied (heardInIdentify (hd .message) p acked)
-    in-identify acked s = identify-replied Replied unexpected (hd .message) p acked (λ first type size code. present-keeps s) (λ type size. settled-keeps position (identified p) room)
+    in-identify acked s = identify-replied Replied unexpected (hd .message) p acked (λ first type size code. present-keeps s) (λ type size. settled-keeps position (identified (c .found .version) p) room)
 
     -- by the parts
     pub sought-keeps : (part : Part) → phaseOf (c .stand) ≡ Seeking position part → Keeps c t (soughtIn part position c t hd p room)
-    sought-keeps Search e = search-replied Replied unexpected (hd .message) p (λ type size. answered-keeps (discovered p))
+    sought-keeps Search e = search-replied Replied unexpected (hd .message) p (λ type size. answered-keeps (discovered (hd .packet) p) (version-passes _ (version-is (hd .packet / 32 % 2))))
     sought-keeps IdentifyDue e = refused-keeps c t NotAwaited refl
     sought-keeps Identify e = in-identify false (rw e at (fits-seek c t h))
     sought-keeps Present e = in-identify true (rw e at (fits-seek c t h))

@@ -94,21 +94,21 @@ whole-parts says written joined dropped hb hw hj hd =
     high = omega (arith, hw)
 
 -- a number that names no event is a join of type 0
-unknown-event : (number kind mac session : ℕ) → (number ≡ 1 → ⊥) → (number ≡ 2 → ⊥) → (number ≡ 3 → ⊥) → (number ≡ 4 → ⊥) → (number ≡ 5 → ⊥) → eventOf number kind mac session ≡ Join 0 mac session
-unknown-event number kind mac session a b c d e = sym (choose-no _ _ _ _ (ne-eqb number 1 a) (choose-no _ _ _ _ (ne-eqb number 2 b) (choose-no _ _ _ _ (ne-eqb number 3 c) (choose-no _ _ _ _ (ne-eqb number 4 d) (choose-no _ _ _ _ (ne-eqb number 5 e) refl)))))
+unknown-event : (number kind mac session version : ℕ) → (number ≡ 1 → ⊥) → (number ≡ 2 → ⊥) → (number ≡ 3 → ⊥) → (number ≡ 4 → ⊥) → (number ≡ 5 → ⊥) → eventOf number kind mac session version ≡ Join 0 mac session version
+unknown-event number kind mac session version a b c d e = sym (choose-no _ _ _ _ (ne-eqb number 1 a) (choose-no _ _ _ _ (ne-eqb number 2 b) (choose-no _ _ _ _ (ne-eqb number 3 c) (choose-no _ _ _ _ (ne-eqb number 4 d) (choose-no _ _ _ _ (ne-eqb number 5 e) refl)))))
 
 -- which is refused, with 22 or with 12
-kindless-refused : (c : Coordinator) (t : List Node) (mac session : ℕ) → (r : Refusal) × (joinOf c t 0 mac session ≡ refused c t r)
+kindless-refused : (c : Coordinator) (t : List Node) (mac session version : ℕ) → (r : Refusal) × (joinOf c t 0 mac session version ≡ refused c t r)
 unfolding joinOf choose
-kindless-refused c t mac session = go (fits c t) refl
+kindless-refused c t mac session version = go (fits c t) refl
   where
-    go : (b : Bool) → fits c t ≡ b → (r : Refusal) × (joinOf c t 0 mac session ≡ refused c t r)
+    go : (b : Bool) → fits c t ≡ b → (r : Refusal) × (joinOf c t 0 mac session version ≡ refused c t r)
     go true h = (BadType, rw h refl)
     go false h = (StateUnfit, rw h refl)
 
 -- an event number that is none of 1 to 5 is refused, and so changes nothing
-pub unknown-refused : (c : Coordinator) (t : List Node) (number kind mac session : ℕ) (b : List ℕ) (room : ℕ) → (number ≡ 1 → ⊥) → (number ≡ 2 → ⊥) → (number ≡ 3 → ⊥) → (number ≡ 4 → ⊥) → (number ≡ 5 → ⊥) → (r : Refusal) × (stepOf c t (eventOf number kind mac session) b room ≡ refused c t r)
-unknown-refused c t number kind mac session b room n1 n2 n3 n4 n5 = (kindless .0, ap (λ e. stepOf c t e b room) (unknown-event number kind mac session n1 n2 n3 n4 n5) ∙ kindless .1)
+pub unknown-refused : (c : Coordinator) (t : List Node) (number kind mac session version : ℕ) (b : List ℕ) (room : ℕ) → (number ≡ 1 → ⊥) → (number ≡ 2 → ⊥) → (number ≡ 3 → ⊥) → (number ≡ 4 → ⊥) → (number ≡ 5 → ⊥) → (r : Refusal) × (stepOf c t (eventOf number kind mac session version) b room ≡ refused c t r)
+unknown-refused c t number kind mac session version b room n1 n2 n3 n4 n5 = (kindless .0, ap (λ e. stepOf c t e b room) (unknown-event number kind mac session version n1 n2 n3 n4 n5) ∙ kindless .1)
   where
-    kindless : (r : Refusal) × (joinOf c t 0 mac session ≡ refused c t r)
-    kindless = kindless-refused c t mac session
+    kindless : (r : Refusal) × (joinOf c t 0 mac session version ≡ refused c t r)
+    kindless = kindless-refused c t mac session version

@@ -22,6 +22,7 @@ use Rattle.board.specs.Table.{at, listedAt}
 use Rattle.board.specs.Wanted.{wantedAt, lowestOf}
 use Rattle.board.proofs.Positions.{listed-within}
 use Rattle.board.proofs.LowestWanted.{lowest-case}
+use Rattle.setup.specs.Setup.{subnetOf}
 use Rattle.accept.specs.declared.Heard.{Heard}
 use Rattle.accept.specs.declared.Heard.the-variants.{Ack, Echo, Deliver, Route, Answer, Refused}
 use Rattle.accept.specs.declared.Reply.{Reply}
@@ -65,8 +66,8 @@ written-small c t event b room = go (stepOf c t event b room .bytes) (step-writt
   where
     go : (bytes : List ℕ) → Written c t bytes → length bytes ≤ 252
     go bytes (nothing e) = omega (arith, ap length e)
-    go bytes (to-board board goes) = good-small (c .setup .subnet) bytes (goes .reaches .good)
-    go bytes (to-stake position part e reaches) = good-small (c .setup .subnet) bytes (reaches .good)
+    go bytes (to-board board goes) = good-small (subnetOf (c .setup) (at t board .version)) bytes (goes .reaches .good)
+    go bytes (to-stake position part e reaches) = good-small (subnetOf (c .setup) (c .found .version)) bytes (reaches .good)
     go bytes (to-all broadcast) = good-small 0 bytes (broadcast .good 0)
 
 -- at most forty: the position awaited, the position joined, the position dropped
@@ -97,9 +98,9 @@ few-chosen t k mac = go (ltb 0 (known t k mac))
     go true = few-lowest t (Mac mac) k
     go false = few-lowest t Free k
 
-few-join : (c : Coordinator) (t : List Node) (kind mac session : ℕ) → Few (joinOf c t kind mac session)
+few-join : (c : Coordinator) (t : List Node) (kind mac session version : ℕ) → Few (joinOf c t kind mac session version)
 unfolding joinOf
-few-join c t kind mac session = by-rules Few (joinRules c t kind mac) (refused c t) _ (each (λ r. none) (joinRules c t kind mac)) (λ ok. (omega arith, few-chosen t (c .setup .k) mac, omega arith))
+few-join c t kind mac session version = by-rules Few (joinRules c t kind mac version) (refused c t) _ (each (λ r. none) (joinRules c t kind mac version)) (λ ok. (omega arith, few-chosen t (c .setup .k) mac, omega arith))
 
 module _ (c : Coordinator) (t : List Node) where
   -- an exchange that ends joins the board that it was about, or nobody
@@ -107,14 +108,14 @@ module _ (c : Coordinator) (t : List Node) where
   few-settled position f room = few-choice (ltb room 29) _ _ none (omega arith, ends .1, omega arith)
     where
       ends : Few (outcome c t position f)
-      ends = few-choice (eqb (joinFound c t f .joined) position) _ _ (few-join _ t (f .kind) (f .mac) (f .session)) none
+      ends = few-choice (eqb (joinFound c t f .joined) position) _ _ (few-join _ t (f .kind) (f .mac) (f .session) (f .version)) none
 
-  few-replied : (r : Reply) (position : ℕ) (p : List ℕ) (room : ℕ) → position ≤ 40 → Few (repliedAs r position c t p room)
-  few-replied Discovered position p room h = few-choice (ltb 0 (joinFound c t _ .joined)) _ _ none none
-  few-replied AckCame position p room h = (h, omega arith, omega arith)
-  few-replied Identified position p room h = few-settled position _ room
-  few-replied Assigned position p room h = few-settled position _ room
-  few-replied (NotTaken r) position p room h = none
+  few-replied : (r : Reply) (position packet : ℕ) (p : List ℕ) (room : ℕ) → position ≤ 40 → Few (repliedAs r position c t packet p room)
+  few-replied Discovered position packet p room h = few-choice (ltb 0 (joinFound c t _ .joined)) _ _ none none
+  few-replied AckCame position packet p room h = (h, omega arith, omega arith)
+  few-replied Identified position packet p room h = few-settled position _ room
+  few-replied Assigned position packet p room h = few-settled position _ room
+  few-replied (NotTaken r) position packet p room h = none
 
   few-quiet-in-seek : (part : Part) (position : ℕ) → Few (quietInSeek part position c t)
   few-quiet-in-seek Search position = none
@@ -151,7 +152,7 @@ module _ (c : Coordinator) (t : List Node) where
     few-taken (Awaiting b x q a) h p room e = few-heard (heardIn x b a c t h p) x b q h p room (few-board b (awaited c t fit e .listed))
     few-taken (ForwardDue b q) h p room e = none
     few-taken (ReturnDue b) h p room e = none
-    few-taken (Seeking q part) h p room e = few-replied (replyIn part q c h p) q p room (few-stake e)
+    few-taken (Seeking q part) h p room e = few-replied (replyIn part q c h p) q (h .packet) p room (few-stake e)
     few-taken Unknown h p room e = none
 
     few-quiet : (w : Phase) → phaseOf (c .stand) ≡ w → Few (quietValue w c t)
@@ -184,7 +185,7 @@ module _ (c : Coordinator) (t : List Node) where
 
   pub step-few : (event : Event) (b : List ℕ) (room : ℕ) → Few (stepOf c t event b room)
   unfolding turnIn receiveIn quietIn discoverOf
-  step-few (Join kind mac session) b room = few-join c t kind mac session
+  step-few (Join kind mac session version) b room = few-join c t kind mac session version
   step-few Turn b room = by-rules Few (turnRules (phaseOf (c .stand)) c t room) (refused c t) _ (each (λ r. none) (turnRules (phaseOf (c .stand)) c t room)) (λ ok. (few-due (not-false _ (ok .0)) room ok, omega arith, omega arith))
   step-few Frame b room = by-rules Few (receiveRules (phaseOf (c .stand)) c t b) (refused c t) _ (each (λ r. none) (receiveRules (phaseOf (c .stand)) c t b)) (λ ok. few-taken (not-false _ (ok .0)) (phaseOf (c .stand)) _ _ room refl)
   step-few Quiet b room = by-rules Few (quietRules (phaseOf (c .stand)) c t) (refused c t) _ (each (λ r. none) (quietRules (phaseOf (c .stand)) c t)) (λ ok. few-quiet (not-false _ (ok .0)) (phaseOf (c .stand)) refl)

@@ -16,8 +16,8 @@ use Rattle.lent.specs.declared.Amendment.{Amendment}
 use Rattle.lent.specs.Numbers.{packed}
 
 -- a new board listed at a position, and every index counted anew (02, C-13); where the position names nobody there is no such board, and below nobody is cleared or marked
-abbrev pub listing : List Node → ℕ → ℕ → ℕ → ℕ → List Node
-listing t position kind mac session = numbered (put t position (joinedNode kind mac session))
+abbrev pub listing : List Node → ℕ → ℕ → ℕ → ℕ → ℕ → List Node
+listing t position kind mac session version = numbered (put t position (joinedNode kind mac session version))
 
 -- the position cleared, and every index counted anew
 abbrev pub clearing : List Node → ℕ → List Node

@@ -13,11 +13,11 @@ use Rattle.steps.specs.declared.Event.the-variants.{Join, Turn, Frame, Quiet, D
 use Rattle.steps.specs.After.{After}
 
 -- the events in the rule book's order: join 1, turn 2, frame 3, quiet 4, discover 5; any other number is a join of type 0, which is always refused (01, "Steps"; 02, C-11)
-abbrev pub eventOf : ℕ → ℕ → ℕ → ℕ → Event
-eventOf number kind mac session =
-    choose (eqb number 1) (Join kind mac session)
+abbrev pub eventOf : ℕ → ℕ → ℕ → ℕ → ℕ → Event
+eventOf number kind mac session version =
+    choose (eqb number 1) (Join kind mac session version)
     (choose (eqb number 2) Turn
-    (choose (eqb number 3) Frame (choose (eqb number 4) Quiet (choose (eqb number 5) Discover (Join 0 mac session)))))
+    (choose (eqb number 3) Frame (choose (eqb number 4) Quiet (choose (eqb number 5) Discover (Join 0 mac session version)))))
 
 -- the four low bytes of a packed answer, low byte first: the refusal's number or 0; the answer's number, the position awaited and the exchange, 0 where there is none
 abbrev pub saying : Told → List ℕ

@@ -50,10 +50,17 @@ fn amending(count: usize, position: usize, edit: Edit) -> Amendment
 }
 
 // A board listed at a position of `count` records.
-pub fn list_edit(count: usize, position: usize, kind: u8, mac: u64, session: u64) -> Amendment
-    ensures { λ r. ⌜ r ≡ amending count position (Joined kind mac session) ⌝ }
+pub fn list_edit(
+    count: usize,
+    position: usize,
+    kind: u8,
+    mac: u64,
+    session: u64,
+    version: u8,
+) -> Amendment
+    ensures { λ r. ⌜ r ≡ amending count position (Joined kind mac session version) ⌝ }
 {
-    amending(count, position, Edit::Joined(kind, mac, session))
+    amending(count, position, Edit::Joined(kind, mac, session, version))
 }
 
 // A position of them cleared.
@@ -71,14 +78,15 @@ pub fn mark_edit(count: usize, position: usize) -> Amendment
 }
 
 // The event that C names by its number.
-pub fn event_of(number: u8, kind: u8, mac: u64, session: u64) -> Event
-    ensures { λ r. ⌜ r ≡ eventOf number kind mac session ⌝ }
+pub fn event_of(number: u8, kind: u8, mac: u64, session: u64, version: u8) -> Event
+    ensures { λ r. ⌜ r ≡ eventOf number kind mac session version ⌝ }
 {
     if number == 1 {
         return Event::Join {
             kind: kind,
             mac: mac,
             session: session,
+            version: version,
         };
     }
     if number == 2 {
@@ -97,6 +105,7 @@ pub fn event_of(number: u8, kind: u8, mac: u64, session: u64) -> Event
         kind: 0,
         mac: mac,
         session: session,
+        version: version,
     }
 }
 

@@ -20,7 +20,7 @@ use Rattle.board.specs.Node.{none, isBlank, inRange}
 use Rattle.board.specs.Table.{at, listedAt}
 use Rattle.board.specs.declared.Wanted.the-variants.{Owed}
 use Rattle.board.specs.Wanted.{wantedAt, lowestOf, highestListed}
-use Rattle.board.specs.Columns.{kindOf, storedIndex, macOf, kindsOf, storedIndexes, macsOf}
+use Rattle.board.specs.Columns.{kindOf, storedIndex, storedVersion, macOf, kindsOf, storedIndexes, versionsOf, macsOf}
 use Rattle.setup.specs.Fit.{recordFits, recordsFit}
 use Rattle.setup.proofs.Tables.{blank-told}
 use Rattle.look.specs.declared.Seen.{Seen}
@@ -29,8 +29,8 @@ use Rattle.look.specs.Seen.{Columned}
 use Rattle.look.specs.Digest.{Digested, digested, dg, zeroed, owedFirst, digestOf, noted, digestTo, digestAll}
 
 -- what was noted is one where its parts are
-pub same-digested : {d e : Digest} {ks ls xs ys ms ns : List ℕ} → digested d ks xs ms ≡ digested e ls ys ns → (d ≡ e) × ((ks ≡ ls) × ((xs ≡ ys) × (ms ≡ ns)))
-same-digested h = (ap (λ (z : Digested). z .digest) h, (ap (λ (z : Digested). z .kinds) h, (ap (λ (z : Digested). z .indexes) h, ap (λ (z : Digested). z .macs) h)))
+pub same-digested : {d e : Digest} {ks ls xs ys vs us ms ns : List ℕ} → digested d ks xs vs ms ≡ digested e ls ys us ns → (d ≡ e) × ((ks ≡ ls) × ((xs ≡ ys) × ((vs ≡ us) × (ms ≡ ns))))
+same-digested h = (ap (λ (z : Digested). z .digest) h, (ap (λ (z : Digested). z .kinds) h, (ap (λ (z : Digested). z .indexes) h, (ap (λ (z : Digested). z .versions) h, ap (λ (z : Digested). z .macs) h))))
 
 -- below forty the record is noted
 pub noted-below : (k i : ℕ) (n : Node) (s : Digested) → i < 40 → noted k i n s ≡ digestOf k i n s
@@ -55,9 +55,9 @@ unfolding choose
 choose-not true x y = refl
 choose-not false x y = refl
 
-module _ (k : ℕ) (t : List Node) (kinds indexes macs : List ℕ) where
+module _ (k : ℕ) (t : List Node) (kinds indexes versions macs : List ℕ) where
   abbrev begun : Digested
-  begun = digested (dg true 0 0) kinds indexes macs
+  begun = digested (dg true 0 0) kinds indexes versions macs
 
   -- each fits, or not
   each-digested : (i : ℕ) → digestTo k t begun i .digest .ok ≡ all (λ j. recordFits k j (getD t j none)) i
@@ -96,12 +96,12 @@ highest-le p (suc n) = go (p (suc n)) (highest-le p n)
     go true h = omega arith
     go false h = omega arith
 
-pub top-small : (k : ℕ) (t : List Node) (kinds indexes macs : List ℕ) (i : ℕ) → digestTo k t (digested (dg true 0 0) kinds indexes macs) i .digest .top ≤ i
-top-small k t kinds indexes macs i = rw (top-digested k t kinds indexes macs i) (highest-le (listedAt t) i)
+pub top-small : (k : ℕ) (t : List Node) (kinds indexes versions macs : List ℕ) (i : ℕ) → digestTo k t (digested (dg true 0 0) kinds indexes versions macs) i .digest .top ≤ i
+top-small k t kinds indexes versions macs i = rw (top-digested k t kinds indexes versions macs i) (highest-le (listedAt t) i)
 
 -- and so is the lowest owed
-pub owed-small : (k : ℕ) (t : List Node) (kinds indexes macs : List ℕ) (i : ℕ) → digestTo k t (digested (dg true 0 0) kinds indexes macs) i .digest .owed ≤ i
-owed-small k t kinds indexes macs i = rw (owed-digested k t kinds indexes macs i) (go (first-case 0 (wantedAt Owed t) 1 i))
+pub owed-small : (k : ℕ) (t : List Node) (kinds indexes versions macs : List ℕ) (i : ℕ) → digestTo k t (digested (dg true 0 0) kinds indexes versions macs) i .digest .owed ≤ i
+owed-small k t kinds indexes versions macs i = rw (owed-digested k t kinds indexes versions macs i) (go (first-case 0 (wantedAt Owed t) 1 i))
   where
     go : FirstCase 0 (wantedAt Owed t) 1 i (firstOr 0 (wantedAt Owed t) (upFrom 1 i)) → firstOr 0 (wantedAt Owed t) (upFrom 1 i) ≤ i
     go (inl (none, e)) = omega (arith, e)
@@ -144,9 +144,9 @@ module _ (f : Node → ℕ) (zf : (n : Node) → isBlank n ≡ true → f n ≡ 
   column : all (λ j. recordFits k j (getD t j none)) 40 ≡ true → u 40 ≡ map f t
   column e = made-end f t Z (u 40) 40 40 (up 40 (omega arith) e) a refl (omega arith)
 
--- a blank record has no type, no index and no MAC
-blank-is : (n : Node) → isBlank n ≡ true → (n .kind ≡ 0) × ((n .mac ≡ 0) × (n .index ≡ 0))
-blank-is n p = rw (blank-told n p) (refl, (refl, refl))
+-- a blank record has no type, no index, no version and no MAC
+blank-is : (n : Node) → isBlank n ≡ true → (n .kind ≡ 0) × (n .mac ≡ 0) × (n .index ≡ 0) × (n .version ≡ 0)
+blank-is n p = rw (blank-told n p) (refl, refl, refl, refl)
 
 module _ (k : ℕ) (t : List Node) (forty : length t ≡ 40) where
   all-forty : digestAll k t zeroed ≡ digestTo k t zeroed 40
@@ -154,15 +154,15 @@ module _ (k : ℕ) (t : List Node) (forty : length t ≡ 40) where
 
   -- of forty records it is told whether each fits, which position is the highest listed, and which the lowest that is owed the list
   digest-ok : digestAll k t zeroed .digest .ok ≡ recordsFit k t
-  digest-ok = ap (λ (z : Digested). z .digest .ok) all-forty ∙ each-digested k t _ _ _ 40
+  digest-ok = ap (λ (z : Digested). z .digest .ok) all-forty ∙ each-digested k t _ _ _ _ 40
 
   digest-top : digestAll k t zeroed .digest .top ≡ highestListed t
   unfolding highestListed
-  digest-top = ap (λ (z : Digested). z .digest .top) all-forty ∙ top-digested k t _ _ _ 40
+  digest-top = ap (λ (z : Digested). z .digest .top) all-forty ∙ top-digested k t _ _ _ _ 40
 
   digest-owed : digestAll k t zeroed .digest .owed ≡ lowestOf t Owed 40
   unfolding lowestOf
-  digest-owed = ap (λ (z : Digested). z .digest .owed) all-forty ∙ owed-digested k t _ _ _ 40
+  digest-owed = ap (λ (z : Digested). z .digest .owed) all-forty ∙ owed-digested k t _ _ _ _ 40
 
   -- where each fits, the columns are those of the records
   module _ (fit : recordsFit k t ≡ true) where
@@ -172,21 +172,26 @@ module _ (k : ℕ) (t : List Node) (forty : length t ≡ 40) where
 
     digest-indexes : digestAll k t zeroed .indexes ≡ storedIndexes t
     unfolding digestTo
-    digest-indexes = ap (λ (z : Digested). z .indexes) all-forty ∙ column storedIndex (λ n e. blank-is n e .1 .1) k t forty (λ i. digestTo k t zeroed i .indexes) refl (λ i. of-choice (λ (z : Digested). z .indexes) _ _ _) fit
+    digest-indexes = ap (λ (z : Digested). z .indexes) all-forty ∙ column storedIndex (λ n e. blank-is n e .2) k t forty (λ i. digestTo k t zeroed i .indexes) refl (λ i. of-choice (λ (z : Digested). z .indexes) _ _ _) fit
+
+    digest-versions : digestAll k t zeroed .versions ≡ versionsOf t
+    unfolding digestTo
+    digest-versions = ap (λ (z : Digested). z .versions) all-forty ∙ column storedVersion (λ n e. blank-is n e .3) k t forty (λ i. digestTo k t zeroed i .versions) refl (λ i. of-choice (λ (z : Digested). z .versions) _ _ _) fit
 
     digest-macs : digestAll k t zeroed .macs ≡ macsOf t
     unfolding digestTo
-    digest-macs = ap (λ (z : Digested). z .macs) all-forty ∙ column macOf (λ n e. blank-is n e .1 .0) k t forty (λ i. digestTo k t zeroed i .macs) refl (λ i. of-choice (λ (z : Digested). z .macs) _ _ _) fit
+    digest-macs = ap (λ (z : Digested). z .macs) all-forty ∙ column macOf (λ n e. blank-is n e .1) k t forty (λ i. digestTo k t zeroed i .macs) refl (λ i. of-choice (λ (z : Digested). z .macs) _ _ _) fit
 
 -- what was noted of forty records tells whether each fits, and where each does, it is what there is to be seen of them
 pub digest-columned : (s : Seen) (k : ℕ) (t : List Node) (d : Digested) → length t ≡ 40 → d ≡ digestAll k t zeroed
-    → (d .digest .ok ≡ recordsFit k t) × (recordsFit k t ≡ true → s .top ≡ d .digest .top → s .owed ≡ d .digest .owed → Columned s (d .kinds) (d .indexes) (d .macs) t)
+    → (d .digest .ok ≡ recordsFit k t) × (recordsFit k t ≡ true → s .top ≡ d .digest .top → s .owed ≡ d .digest .owed → Columned s (d .kinds) (d .indexes) (d .versions) (d .macs) t)
 digest-columned s k t d forty e = (
   ap (λ (z : Digested). z .digest .ok) e ∙ digest-ok k t forty,
   λ fit top owed.
       record {
         kinds = ap (λ (z : Digested). z .kinds) e ∙ digest-kinds k t forty fit;
         indexes = ap (λ (z : Digested). z .indexes) e ∙ digest-indexes k t forty fit;
+        versions = ap (λ (z : Digested). z .versions) e ∙ digest-versions k t forty fit;
         macs = ap (λ (z : Digested). z .macs) e ∙ digest-macs k t forty fit;
         top = top ∙ ap (λ (z : Digested). z .digest .top) e ∙ digest-top k t forty;
         owed = owed ∙ ap (λ (z : Digested). z .digest .owed) e ∙ digest-owed k t forty;

@@ -2,11 +2,11 @@
 use Prim.Native.Nat.{ℕ, _≤_}
 use native.Mathlib.Omega.{arith}
 use mathlib.Core.Path.{_≡_, refl, sym, ap, _∙_}
-use mathlib.Core.Bool.{Bool, true, false, _&&_}
+use mathlib.Core.Bool.{Bool, true, false, _&&_, not}
 use mathlib.Core.Logic.{inl, inr}
 use mathlib.Core.List.{List}
 use lib.Dec.{eqb}
-use lib.ListN.{length}
+use lib.ListN.{length, length-map}
 use borrow.Author.Tests.{eq-eqb, eqb-true, not-false}
 use Rattle.ground.proofs.Choices.{and-left}
 use Rattle.ground.proofs.Highest.{HighestCase}
@@ -14,10 +14,11 @@ use Rattle.board.specs.declared.Node.{Node}
 use Rattle.board.specs.Table.{at, listedAt}
 use Rattle.board.specs.declared.Wanted.the-variants.{Owed}
 use Rattle.board.specs.Wanted.{lowestOf, highestListed}
-use Rattle.board.specs.Columns.{kindsOf, storedIndex, storedIndexes, macsOf, typed, columnAt}
+use Rattle.board.specs.Columns.{kindOf, kindsOf, storedIndex, storedIndexes, storedVersion, versionsOf, macsOf, typed, columnAt, forty}
+use Rattle.board.specs.Types.{tooManyTypes}
 use Rattle.board.proofs.LowestWanted.{highest-listed-case, highest-within, owed-to-top, some-highest}
 use Rattle.board.proofs.SameKinds.{SameKinds, kinds-listed}
-use Rattle.board.proofs.Columns.{typed-kinds, column-of, Blanks}
+use Rattle.board.proofs.Columns.{typed-kinds, column-of, forty-whole, Blanks}
 use Rattle.setup.specs.Fit.{recordsFit, areApart, areNumbered, tableFits}
 use Rattle.setup.proofs.Tables.{boards-listed, table-told}
 use Rattle.coordinator.specs.declared.Coordinator.{Coordinator}
@@ -66,24 +67,24 @@ top-within c t fit = go (highest-listed-case t)
 owed-within : (c : Coordinator) (t : List Node) → fits c t ≡ true → lowestOf t Owed 40 ≡ lowestOf t Owed (c .setup .k)
 owed-within c t fit = owed-to-top t 40 (highest-within t) ∙ sym (owed-to-top t (c .setup .k) (top-within c t fit))
 
-module _ {s : Seen} {ks xs ms : List ℕ} {c : Coordinator} {t : List Node} (sees : Sees s ks xs ms c t) where
+module _ {s : Seen} {ks xs vs ms : List ℕ} {c : Coordinator} {t : List Node} (sees : Sees s ks xs vs ms c t) where
   -- what is seen tells whether coordinator and records are fit
-  pub fits-seen : fitsSeen s ks xs ms ≡ fits c t
+  pub fits-seen : fitsSeen s ks xs vs ms ≡ fits c t
   unfolding fitsSeen fits tableFits holdFits
   fits-seen = go (s .ok) refl
     where
-      go : (b : Bool) → s .ok ≡ b → fitsSeen s ks xs ms ≡ fits c t
+      go : (b : Bool) → s .ok ≡ b → fitsSeen s ks xs vs ms ≡ fits c t
       go false e = rw (eq-eqb (length t) 40 (sees .forty), sees .setup, e, (let r : recordsFit (c .setup .k) t ≡ false = sym (sees .each) ∙ e in r)) refl
       go true e =
           let cols = sees .columns e in
           let r : recordsFit (c .setup .k) t ≡ true = sym (sees .each) ∙ e in
-          rw (eq-eqb (length t) 40 (sees .forty), sees .setup, sees .state, e, r, cols .kinds, cols .indexes, cols .macs, cols .top, boards-listed (c .setup .k) t (sees .forty) r, phase-same (typed-kinds t (sees .forty)) (phaseOf (c .stand)) (c .kept), some-highest t) refl
+          rw (eq-eqb (length t) 40 (sees .forty), sees .setup, sees .state, e, r, cols .kinds, cols .indexes, cols .versions, cols .macs, cols .top, boards-listed (c .setup .k) t (sees .forty) r, forty-whole (kindsOf t) (length-map t kindOf ∙ sees .forty), forty-whole (versionsOf t) (length-map t storedVersion ∙ sees .forty), phase-same (typed-kinds t (sees .forty)) (phaseOf (c .stand)) (c .kept), some-highest t) refl
 
   -- and of fit ones all of it
   module _ (fit : fits c t ≡ true) where
-    pub fit-columns : Columned s ks xs ms t
+    pub fit-columns : Columned s ks xs vs ms t
     unfolding tableFits
-    fit-columns = sees .columns (sees .each ∙ and-left (recordsFit (c .setup .k) t) (areApart (macsOf t) && areNumbered t) (fits-table c t fit))
+    fit-columns = sees .columns (sees .each ∙ and-left (recordsFit (c .setup .k) t) (areApart (macsOf t) && areNumbered t && not (tooManyTypes (kindsOf t) (versionsOf t))) (fits-table c t fit))
 
     pub saw : Saw s c t
     saw = record { fit = fit; setup = sees .setup; state = sees .state; top = fit-columns .top; owed = fit-columns .owed ∙ owed-within c t fit }
@@ -105,3 +106,7 @@ module _ {s : Seen} {c : Coordinator} {t : List Node} (saw : Saw s c t) where
   -- the stored index at a position
   pub index-seen : {indexes : List ℕ} → indexes ≡ storedIndexes t → (p : ℕ) → columnAt indexes p ≡ at t p .index
   index-seen known p = ap (λ (xs : List ℕ). columnAt xs p) known ∙ column-of storedIndex refl t (fits-forty c t (saw .fit)) p
+
+  -- the version at a position
+  pub version-seen : {versions : List ℕ} → versions ≡ versionsOf t → (p : ℕ) → columnAt versions p ≡ at t p .version
+  version-seen known p = ap (λ (vs : List ℕ). columnAt vs p) known ∙ column-of storedVersion refl t (fits-forty c t (saw .fit)) p

@@ -15,8 +15,8 @@ unique-fits κs a s t r q p p′ = p ∙ sym p′
 
 -- what is passed to `note`, and the same at its exit
 abbrev Notes : Type 0
-Notes = Digest × (ℕ × (ℕ × (Node × (RefT (List ℕ) × (RefT (List ℕ) × (RefT (List ℕ) × Unit {0}))))))
+Notes = Digest × (ℕ × (ℕ × (Node × (RefT (List ℕ) × (RefT (List ℕ) × (RefT (List ℕ) × (RefT (List ℕ) × Unit {0})))))))
 
 pub unique-note : (κs : _) (a s t : Notes) (r q : Digest) → note.Post κs a r s → note.Post κs a q t
-    → (r ≡ q) × ((now (s .1 .1 .1 .1 .0) ≡ now (t .1 .1 .1 .1 .0)) × ((now (s .1 .1 .1 .1 .1 .0) ≡ now (t .1 .1 .1 .1 .1 .0)) × (now (s .1 .1 .1 .1 .1 .1 .0) ≡ now (t .1 .1 .1 .1 .1 .1 .0))))
+    → (r ≡ q) × ((now (s .1 .1 .1 .1 .0) ≡ now (t .1 .1 .1 .1 .0)) × ((now (s .1 .1 .1 .1 .1 .0) ≡ now (t .1 .1 .1 .1 .1 .0)) × ((now (s .1 .1 .1 .1 .1 .1 .0) ≡ now (t .1 .1 .1 .1 .1 .1 .0)) × (now (s .1 .1 .1 .1 .1 .1 .1 .0) ≡ now (t .1 .1 .1 .1 .1 .1 .1 .0)))))
 unique-note κs a s t r q p p′ = same-digested (p ∙ sym p′)

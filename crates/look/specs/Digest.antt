@@ -15,17 +15,18 @@ pub record Digested : Type 0 where
   pub digest : Digest
   pub kinds : List ℕ
   pub indexes : List ℕ
+  pub versions : List ℕ
   pub macs : List ℕ
 
-abbrev pub digested : Digest → List ℕ → List ℕ → List ℕ → Digested
-digested d kinds indexes macs = record { digest = d; kinds = kinds; indexes = indexes; macs = macs }
+abbrev pub digested : Digest → List ℕ → List ℕ → List ℕ → List ℕ → Digested
+digested d kinds indexes versions macs = record { digest = d; kinds = kinds; indexes = indexes; versions = versions; macs = macs }
 
 abbrev pub dg : Bool → ℕ → ℕ → Digest
 dg ok top owed = record { ok = ok; top = top; owed = owed }
 
 -- nothing noted yet, over columns of zeros
 abbrev pub zeroed : Digested
-zeroed = digested (dg true 0 0) (replicate 40 0) (replicate 40 0) (replicate 40 0)
+zeroed = digested (dg true 0 0) (replicate 40 0) (replicate 40 0) (replicate 40 0) (replicate 40 0)
 
 -- the lowest position that is owed the list, once the mark of the record at index i is noted too
 abbrev pub owedFirst : ℕ → ℕ → ℕ → ℕ
@@ -34,8 +35,8 @@ owedFirst owed i mark = choose (eqb owed 0 && eqb mark 1) (i + 1) owed
 -- the record at index i noted: a record that is not listed leaves the columns as they are
 abbrev pub digestOf : ℕ → ℕ → Node → Digested → Digested
 digestOf k i n s =
-    choose (eqb (n .kind) 0) (digested (dg (s .digest .ok && recordFits k i n) (s .digest .top) (s .digest .owed)) (s .kinds) (s .indexes) (s .macs))
-    (digested (dg (s .digest .ok && recordFits k i n) (i + 1) (owedFirst (s .digest .owed) i (n .owed))) (set (s .kinds) i (n .kind)) (set (s .indexes) i (n .index)) (set (s .macs) i (n .mac)))
+    choose (eqb (n .kind) 0) (digested (dg (s .digest .ok && recordFits k i n) (s .digest .top) (s .digest .owed)) (s .kinds) (s .indexes) (s .versions) (s .macs))
+    (digested (dg (s .digest .ok && recordFits k i n) (i + 1) (owedFirst (s .digest .owed) i (n .owed))) (set (s .kinds) i (n .kind)) (set (s .indexes) i (n .index)) (set (s .versions) i (n .version)) (set (s .macs) i (n .mac)))
 
 -- past the forty nothing is noted
 abbrev pub noted : ℕ → ℕ → Node → Digested → Digested

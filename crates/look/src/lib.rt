@@ -10,7 +10,9 @@ use coordinator::State;
 use setup::Setup;
 ghost use mathlib.Core.Path.{_≡_};
 ghost use Prim.Native.Nat.{_<_};
-ghost use Rattle.board.specs.Columns.{typed};
+ghost use mathlib.Core.Bool.{not};
+ghost use Rattle.board.specs.Columns.{typed, forty};
+ghost use Rattle.board.specs.Types.{tooManyTypes};
 ghost use Rattle.coordinator.specs.State.{bare};
 ghost use Rattle.coordinator.specs.Fit.{isRequest, isResponse, exchangeFits, phaseFits, isFound, partFits, seekFits};
 ghost use Rattle.look.specs.Seen.{fitsSeen};
@@ -45,7 +47,7 @@ fn owed_first(owed: usize, i: usize, mark: u8) -> usize
     owed
 }
 
-// The record at an index noted: its type, stored index and MAC go into the columns where it is listed.
+// The record at an index noted: its type, stored index, version and MAC go into the columns where it is listed.
 pub fn note(
     digest: Digest,
     k: usize,
@@ -53,9 +55,10 @@ pub fn note(
     node: Node,
     kinds: &mut [u8; 40],
     indexes: &mut [u8; 40],
+    versions: &mut [u8; 40],
     macs: &mut [u64; 40],
 ) -> Digest
-    ensures { λ r. ⌜ digested r (now (kinds .exit)) (now (indexes .exit)) (now (macs .exit)) ≡ noted k i node (digested digest (now (kinds .entry)) (now (indexes .entry)) (now (macs .entry))) ⌝ }
+    ensures { λ r. ⌜ digested r (now (kinds .exit)) (now (indexes .exit)) (now (versions .exit)) (now (macs .exit)) ≡ noted k i node (digested digest (now (kinds .entry)) (now (indexes .entry)) (now (versions .entry)) (now (macs .entry))) ⌝ }
 {
     let ok = digest.ok & setup::record_fits(k, i, node);
     if 40 <= i {
@@ -70,6 +73,7 @@ pub fn note(
     }
     kinds[i] = node.kind;
     indexes[i] = node.index;
+    versions[i] = node.version;
     macs[i] = node.mac;
     Digest {
         ok: ok,
@@ -131,7 +135,10 @@ fn phase_fits(phase: Phase, kinds: &[u8; 40], head: Head) -> bool
 fn is_found(found: Found) -> bool
     ensures { λ r. ⌜ r ≡ isFound found ⌝ }
 {
-    (found.kind != 0) & (found.kind != 165) & setup::is_mac(found.mac)
+    (found.kind != 0)
+        & (found.kind != 165)
+        & setup::is_mac(found.mac)
+        & ((found.version == 1) | (found.version == 2))
 }
 
 // From its response on, what was discovered is needed.
@@ -169,9 +176,25 @@ fn seek_fits(phase: Phase, k: usize, found: Found) -> bool
     }
 }
 
+// The rule on the types is kept. Where there is no 1.0 board, which is known at a glance, nothing is counted.
+fn types_fit(kinds: &[u8; 40], versions: &[u8; 40]) -> bool
+    ensures { λ r. ⌜ r ≡ not (tooManyTypes (forty (now (kinds .entry))) (forty (now (versions .entry)))) ⌝ }
+{
+    if board::has_old(versions) {
+        return !board::too_many_with(kinds, versions, 0, 0, 0);
+    }
+    true
+}
+
 // Coordinator and records are fit together. MACs are compared and indexes counted up to the highest listed position: above it there are none. Joins are held only where somebody is listed.
-pub fn fits(seen: Seen, kinds: &[u8; 40], indexes: &[u8; 40], macs: &[u64; 40]) -> bool
-    ensures { λ r. ⌜ r ≡ fitsSeen seen (now (kinds .entry)) (now (indexes .entry)) (now (macs .entry)) ⌝ }
+pub fn fits(
+    seen: Seen,
+    kinds: &[u8; 40],
+    indexes: &[u8; 40],
+    versions: &[u8; 40],
+    macs: &[u64; 40],
+) -> bool
+    ensures { λ r. ⌜ r ≡ fitsSeen seen (now (kinds .entry)) (now (indexes .entry)) (now (versions .entry)) (now (macs .entry)) ⌝ }
 {
     let setup = seen.setup;
     let state = seen.state;
@@ -183,7 +206,7 @@ pub fn fits(seen: Seen, kinds: &[u8; 40], indexes: &[u8; 40], macs: &[u64; 40]) 
     let top = seen.top;
     let phase = coordinator::phase_of(stand);
     setup::setup_fits(setup)
-        & ((seen.ok & setup::boards_fit(kinds, indexes, macs, top))
+        & ((seen.ok & (setup::boards_fit(kinds, indexes, macs, top) & types_fit(kinds, versions)))
             & (phase_fits(phase, kinds, head)
                 & (seek_fits(phase, k, found)
                     & ((state.searched <= 1)

@@ -21,25 +21,25 @@ use Rattle.word.proofs.Words.{length-bytes, read-back}
 use Rattle.board.specs.declared.Node.{Node}
 use Rattle.board.specs.Table.{at}
 use Rattle.setup.specs.declared.Setup.{Setup}
-use Rattle.setup.specs.Setup.{address}
-use Rattle.nodelist.specs.List.{nodeList}
-use Rattle.nodelist.proofs.Theorems.{at-most}
+use Rattle.setup.specs.Setup.{address, subnetOf}
+use Rattle.nodelist.specs.List.{listFor}
+use Rattle.nodelist.proofs.Theorems.{for-at-most}
 use Rattle.message.specs.Message.{toBoard, ownHeader, signed, listHeader, signedFrame, listFrame, ackCode, broadcastHeader, discoveryHeader, everyKind, identifyHeader, assignHeader, assignment}
 
 -- a header of our own is one sent to the board
-pub own-to-board : (s : Setup) (board index message packet : ℕ) → ownHeader s board index message packet ≡ toBoard s board (ownHeader s board index message packet)
+pub own-to-board : (s : Setup) (board version index message packet : ℕ) → ownHeader s board version index message packet ≡ toBoard s board version (ownHeader s board version index message packet)
 unfolding ownHeader toBoard
-own-to-board s board index message packet = refl
+own-to-board s board version index message packet = refl
 
 -- the nine bytes of a header of our own, as they stand on the wire
-pub own-fields : (s : Setup) (board index message packet : ℕ) → fields (ownHeader s board index message packet) ≡ address s board ∷ 255 ∷ s .subnet ∷ 0 ∷ 0 ∷ index ∷ 165 ∷ message ∷ packet ∷ []
+pub own-fields : (s : Setup) (board version index message packet : ℕ) → fields (ownHeader s board version index message packet) ≡ address s board ∷ 255 ∷ subnetOf s version ∷ 0 ∷ 0 ∷ index ∷ 165 ∷ message ∷ packet ∷ []
 unfolding ownHeader
-own-fields s board index message packet = refl
+own-fields s board version index message packet = refl
 
--- so a frame of our own reads back in our subnet
-pub own-back : (s : Setup) (board index message packet : ℕ) (p : List ℕ) → length p ≤ 240 → (reading (s .subnet) (frameOf (ownHeader s board index message packet) p) ≡ gives (fields (ownHeader s board index message packet) ++ length p ∷ [])) × (payloadOf (s .subnet) (frameOf (ownHeader s board index message packet) p) ≡ p)
+-- so a frame of our own reads back in the board's subnet
+pub own-back : (s : Setup) (board version index message packet : ℕ) (p : List ℕ) → length p ≤ 240 → (reading (subnetOf s version) (frameOf (ownHeader s board version index message packet) p) ≡ gives (fields (ownHeader s board version index message packet) ++ length p ∷ [])) × (payloadOf (subnetOf s version) (frameOf (ownHeader s board version index message packet) p) ≡ p)
 unfolding ownHeader
-own-back s board index message packet p small = reads-back-own (ownHeader s board index message packet) p small
+own-back s board version index message packet p small = reads-back-own (ownHeader s board version index message packet) p small
 
 -- the nine bytes of a broadcast's header
 pub broadcast-fields : (message packet : ℕ) → fields (broadcastHeader message packet) ≡ 0 ∷ 255 ∷ 0 ∷ 0 ∷ 0 ∷ 0 ∷ 165 ∷ message ∷ packet ∷ []
@@ -51,36 +51,36 @@ pub signed-size : (s : Setup) (code : ℕ) → length (signed s code) ≡ 17
 unfolding signed
 signed-size s code = simp (length-append, length-bytes)
 
-pub signed-long : (s : Setup) (t : List Node) (board code : ℕ) → length (signedFrame s t board code) ≡ 29
-signed-long s t board code = long _ (signed s code) ∙ ap (λ (n : ℕ). 12 + n) (signed-size s code)
+pub signed-long : (s : Setup) (t : List Node) (board version code : ℕ) → length (signedFrame s t board version code) ≡ 29
+signed-long s t board version code = long _ (signed s code) ∙ ap (λ (n : ℕ). 12 + n) (signed-size s code)
 
 -- so a payload of ours is never too long for a frame
 pub signed-small : (s : Setup) (code : ℕ) → length (signed s code) ≤ 240
 signed-small s code = omega (arith, signed-size s code)
 
-pub list-small : (internal : ℕ) (t : List Node) → length (nodeList internal t) ≤ 240
-list-small internal t = omega (arith, at-most internal t)
+pub list-small : (version internal : ℕ) (t : List Node) → length (listFor version internal t) ≤ 240
+list-small version internal t = omega (arith, for-at-most version internal t)
 
 pub list-long : (s : Setup) (t : List Node) (board : ℕ) → length (listFrame s t board) ≤ 53
-list-long s t board = omega (arith, long (listHeader s board (at t board .index)) (nodeList (s .internal) t), at-most (s .internal) t)
+list-long s t board = omega (arith, long (listHeader s board (at t board .version) (at t board .index)) (listFor (at t board .version) (s .internal) t), for-at-most (at t board .version) (s .internal) t)
 
 -- an assignment has 19 bytes
-pub assignment-size : (s : Setup) (position mac session : ℕ) → length (assignment s position mac session) ≡ 19
+pub assignment-size : (s : Setup) (position version mac session : ℕ) → length (assignment s position version mac session) ≡ 19
 unfolding assignment
-assignment-size s position mac session = simp (length-append, length-bytes)
+assignment-size s position version mac session = simp (length-append, length-bytes)
 
-pub assignment-small : (s : Setup) (position mac session : ℕ) → length (assignment s position mac session) ≤ 240
-assignment-small s position mac session = omega (arith, assignment-size s position mac session)
+pub assignment-small : (s : Setup) (position version mac session : ℕ) → length (assignment s position version mac session) ≤ 240
+assignment-small s position version mac session = omega (arith, assignment-size s position version mac session)
 
 -- so the frames of the exchange by which a board joins have 13, 12 and 31
 pub discovery-long : length (frameOf discoveryHeader everyKind) ≡ 13
 discovery-long = long discoveryHeader everyKind
 
-pub identify-long : (s : Setup) (position index : ℕ) → length (frameOf (identifyHeader s position index) []) ≡ 12
-identify-long s position index = long (identifyHeader s position index) []
+pub identify-long : (s : Setup) (position version index : ℕ) → length (frameOf (identifyHeader s position version index) []) ≡ 12
+identify-long s position version index = long (identifyHeader s position version index) []
 
-pub assign-long : (s : Setup) (position mac session : ℕ) → length (frameOf assignHeader (assignment s position mac session)) ≡ 31
-assign-long s position mac session = long assignHeader (assignment s position mac session) ∙ ap (λ (n : ℕ). 12 + n) (assignment-size s position mac session)
+pub assign-long : (s : Setup) (position version mac session : ℕ) → length (frameOf assignHeader (assignment s position version mac session)) ≡ 31
+assign-long s position version mac session = long assignHeader (assignment s position version mac session) ∙ ap (λ (n : ℕ). 12 + n) (assignment-size s position version mac session)
 
 -- of a payload that is not too long, a writer can only be given 11
 pub only-room {ℓ} : {A : Type ℓ} (p : List ℕ) (room : ℕ) (refusing : Refusal → A) (value : A) → length p ≤ 240 → ruled (writeRules p room) refusing value ≡ choose (ltb room (12 + length p)) (refusing NoRoom) value

@@ -22,31 +22,31 @@ outcome r q p p′ = (same-written r q (p .0 ∙ sym (p′ .0)), p .1 ∙ sym (p
 
 -- what each was passed, and the same at its exit
 abbrev To : Type 0
-To = Setup × (ℕ × (Header × (RefT (List ℕ) × (RefT (List ℕ) × Unit {0}))))
+To = Setup × (ℕ × (ℕ × (Header × (RefT (List ℕ) × (RefT (List ℕ) × Unit {0})))))
 
 abbrev Numbers : Type 0
-Numbers = Setup × (ℕ × (ℕ × (ℕ × (RefT (List ℕ) × Unit {0}))))
+Numbers = Setup × (ℕ × (ℕ × (ℕ × (ℕ × (RefT (List ℕ) × Unit {0})))))
 
 abbrev Listed : Type 0
-Listed = Setup × (RefT (List ℕ) × (ℕ × (ℕ × (ℕ × (RefT (List ℕ) × Unit {0})))))
+Listed = Setup × (RefT (List ℕ) × (RefT (List ℕ) × (ℕ × (ℕ × (ℕ × (ℕ × (RefT (List ℕ) × Unit {0})))))))
 
 abbrev Identified : Type 0
-Identified = Setup × (ℕ × (ℕ × (RefT (List ℕ) × Unit {0})))
+Identified = Setup × (ℕ × (ℕ × (ℕ × (RefT (List ℕ) × Unit {0}))))
 
-pub unique-write-to : (κs : _) (a s t : To) (r q : Writing) → write-to.Post κs a r s → write-to.Post κs a q t → (r ≡ q) × (now (s .1 .1 .1 .1 .0) ≡ now (t .1 .1 .1 .1 .0))
+pub unique-write-to : (κs : _) (a s t : To) (r q : Writing) → write-to.Post κs a r s → write-to.Post κs a q t → (r ≡ q) × (now (s .1 .1 .1 .1 .1 .0) ≡ now (t .1 .1 .1 .1 .1 .0))
 unique-write-to κs a s t r q p p′ = outcome r q p p′
 
-pub unique-write-signed : (κs : _) (a s t : Numbers) (r q : Writing) → write-signed.Post κs a r s → write-signed.Post κs a q t → (r ≡ q) × (now (s .1 .1 .1 .1 .0) ≡ now (t .1 .1 .1 .1 .0))
+pub unique-write-signed : (κs : _) (a s t : Numbers) (r q : Writing) → write-signed.Post κs a r s → write-signed.Post κs a q t → (r ≡ q) × (now (s .1 .1 .1 .1 .1 .0) ≡ now (t .1 .1 .1 .1 .1 .0))
 unique-write-signed κs a s t r q p p′ = outcome r q p p′
 
-pub unique-write-list : (κs : _) (a s t : Listed) (r q : Writing) → write-list.Post κs a r s → write-list.Post κs a q t → (r ≡ q) × (now (s .1 .1 .1 .1 .1 .0) ≡ now (t .1 .1 .1 .1 .1 .0))
+pub unique-write-list : (κs : _) (a s t : Listed) (r q : Writing) → write-list.Post κs a r s → write-list.Post κs a q t → (r ≡ q) × (now (s .1 .1 .1 .1 .1 .1 .1 .0) ≡ now (t .1 .1 .1 .1 .1 .1 .1 .0))
 unique-write-list κs a s t r q p p′ = outcome r q p p′
 
 pub unique-write-discovery : (κs : _) (a s t : RefT (List ℕ) × Unit {0}) (r q : Writing) → write-discovery.Post κs a r s → write-discovery.Post κs a q t → (r ≡ q) × (now (s .0) ≡ now (t .0))
 unique-write-discovery κs a s t r q p p′ = outcome r q p p′
 
-pub unique-write-identify : (κs : _) (a s t : Identified) (r q : Writing) → write-identify.Post κs a r s → write-identify.Post κs a q t → (r ≡ q) × (now (s .1 .1 .1 .0) ≡ now (t .1 .1 .1 .0))
+pub unique-write-identify : (κs : _) (a s t : Identified) (r q : Writing) → write-identify.Post κs a r s → write-identify.Post κs a q t → (r ≡ q) × (now (s .1 .1 .1 .1 .0) ≡ now (t .1 .1 .1 .1 .0))
 unique-write-identify κs a s t r q p p′ = outcome r q p p′
 
-pub unique-write-assign : (κs : _) (a s t : Numbers) (r q : Writing) → write-assign.Post κs a r s → write-assign.Post κs a q t → (r ≡ q) × (now (s .1 .1 .1 .1 .0) ≡ now (t .1 .1 .1 .1 .0))
+pub unique-write-assign : (κs : _) (a s t : Numbers) (r q : Writing) → write-assign.Post κs a r s → write-assign.Post κs a q t → (r ≡ q) × (now (s .1 .1 .1 .1 .1 .0) ≡ now (t .1 .1 .1 .1 .1 .0))
 unique-write-assign κs a s t r q p p′ = outcome r q p p′

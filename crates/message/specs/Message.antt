@@ -11,16 +11,16 @@ use Rattle.word.specs.Words.{bytesOf}
 use Rattle.board.specs.declared.Node.{Node}
 use Rattle.board.specs.Table.{at}
 use Rattle.setup.specs.declared.Setup.{Setup}
-use Rattle.setup.specs.Setup.{address}
-use Rattle.nodelist.specs.List.{nodeList}
+use Rattle.setup.specs.Setup.{address, subnetOf}
+use Rattle.nodelist.specs.List.{listFor}
 
--- a header sent to a board: to its address, from 255, in our subnet, the rest as it was (01, "Forward and return")
-unfoldable pub toBoard : Setup → ℕ → Header → Header
-toBoard s board h =
+-- a header sent to a board of a version: to its address, from 255, in its subnet, the rest as it was (01, "Forward and return"; 02, C-15)
+unfoldable pub toBoard : Setup → ℕ → ℕ → Header → Header
+toBoard s board version h =
     record {
       destination = address s board;
       source = 255;
-      subnet = s .subnet;
+      subnet = subnetOf s version;
       method = h .method;
       parameter1 = h .parameter1;
       parameter2 = h .parameter2;
@@ -29,13 +29,13 @@ toBoard s board h =
       packet = h .packet;
     }
 
--- the header of a message of our own: method 0, parameter 1 0, parameter 2 the board's index, node type 165 (01, "Turn": "Own frames")
-unfoldable pub ownHeader : Setup → ℕ → ℕ → ℕ → ℕ → Header
-ownHeader s board index message packet =
+-- the header of a message of our own, in the subnet of the board's version: method 0, parameter 1 0, parameter 2 the board's index, node type 165 (01, "Turn": "Own frames"; 02, C-15)
+unfoldable pub ownHeader : Setup → ℕ → ℕ → ℕ → ℕ → ℕ → Header
+ownHeader s board version index message packet =
     record {
       destination = address s board;
       source = 255;
-      subnet = s .subnet;
+      subnet = subnetOf s version;
       method = 0;
       parameter1 = 0;
       parameter2 = index;
@@ -57,20 +57,20 @@ unfoldable pub signed : Setup → ℕ → List ℕ
 signed s code = code ∷ bytesOf 8 (s .mac) ++ bytesOf 8 (s .session)
 
 -- both are message 0, packet number 0x80: the dataflow bit (003, 4.3)
-abbrev pub signedHeader : Setup → ℕ → ℕ → Header
-signedHeader s board index = ownHeader s board index 0 128
+abbrev pub signedHeader : Setup → ℕ → ℕ → ℕ → Header
+signedHeader s board version index = ownHeader s board version index 0 128
 
 -- the node list is message 0x14, packet number 0 (003, Table 30 and 4.3)
-abbrev pub listHeader : Setup → ℕ → ℕ → Header
-listHeader s board index = ownHeader s board index 20 0
+abbrev pub listHeader : Setup → ℕ → ℕ → ℕ → Header
+listHeader s board version index = ownHeader s board version index 20 0
 
--- the offer to a board of the table, or the ACK, by the code: parameter 2 is the stored index (02, C-13)
-abbrev pub signedFrame : Setup → List Node → ℕ → ℕ → List ℕ
-signedFrame s t board code = frameOf (signedHeader s board (at t board .index)) (signed s code)
+-- the offer to a board of the table, or the ACK, by the code, in the subnet of a version: parameter 2 is the stored index (02, C-13)
+abbrev pub signedFrame : Setup → List Node → ℕ → ℕ → ℕ → List ℕ
+signedFrame s t board version code = frameOf (signedHeader s board version (at t board .index)) (signed s code)
 
--- the node list to a board of the table
+-- the node list to a board of the table, in the form and in the subnet of its version (02, C-15)
 abbrev pub listFrame : Setup → List Node → ℕ → List ℕ
-listFrame s t board = frameOf (listHeader s board (at t board .index)) (nodeList (s .internal) t)
+listFrame s t board = frameOf (listHeader s board (at t board .version) (at t board .index)) (listFor (at t board .version) (s .internal) t)
 
 -- the header of a broadcast of the exchange by which a board joins: destination 0, subnet 0, method 0, parameters 0 (02, C-11; 003, 6.6 and 6.7)
 unfoldable pub broadcastHeader : ℕ → ℕ → Header
@@ -95,17 +95,17 @@ discoveryHeader = broadcastHeader 121 32
 abbrev pub everyKind : List ℕ
 everyKind = 0 ∷ []
 
--- Get Node ID is message 0x7B, packet number 0, without a payload; it goes to the address at stake (003, Table 61)
-abbrev pub identifyHeader : Setup → ℕ → ℕ → Header
-identifyHeader s position index = ownHeader s position index 123 0
+-- Get Node ID is message 0x7B, packet number 0, without a payload; it goes to the address at stake, in the subnet of what was discovered (003, Table 61; 02, C-15)
+abbrev pub identifyHeader : Setup → ℕ → ℕ → ℕ → Header
+identifyHeader s position version index = ownHeader s position version index 123 0
 
 -- Set Address is message 0x7A, packet number 0 (003, Table 59)
 abbrev pub assignHeader : Header
 assignHeader = broadcastHeader 122 0
 
--- its payload: the address at stake, our subnet, MAC and session of whom it is for, 1 (003, Table 59; 02, C-11)
-unfoldable pub assignment : Setup → ℕ → ℕ → ℕ → List ℕ
-assignment s position mac session = address s position ∷ s .subnet ∷ bytesOf 8 mac ++ (bytesOf 8 session ++ 1 ∷ [])
+-- its payload: the address at stake, the subnet, MAC and session of whom it is for, 1 (003, Table 59; 02, C-11 and C-15)
+unfoldable pub assignment : Setup → ℕ → ℕ → ℕ → ℕ → List ℕ
+assignment s position version mac session = address s position ∷ subnetOf s version ∷ bytesOf 8 mac ++ (bytesOf 8 session ++ 1 ∷ [])
 
 -- a writer answers as the frame's writer does for this header and payload, and leaves the same output (01, "Order": "Writer 10, 11")
 abbrev pub Sends : Header → List ℕ → Writing → List ℕ → List ℕ → Type 0

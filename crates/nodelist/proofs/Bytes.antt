@@ -22,7 +22,8 @@ use Rattle.board.proofs.LowestWanted.{highest-within}
 use Rattle.board.specs.Wanted.{highestListed}
 use Rattle.refusal.specs.Refusal.{refuses, gives}
 use Rattle.refusal.specs.declared.Refusal.the-variants.{NoRoom}
-use Rattle.nodelist.specs.List.{kindAt, nodeList, listLength, listTo, lengthTo, writtenTo, outputTo, sameByteTo, sameTo}
+use Rattle.nodelist.specs.Condensed.{condensed}
+use Rattle.nodelist.specs.List.{kindAt, nodeList, listLength, listTo, lengthTo, writtenTo, outputTo, sameBytes, listOver}
 
 -- the list up to a position has one byte more
 pub size-to : (top internal : ℕ) (t : List Node) → length (listTo top internal t) ≡ lengthTo top
@@ -87,20 +88,35 @@ accepted top internal t o u e h w = (choose-no _ _ _ _ roomy (ap (λ (n : ℕ). 
     roomy : ltb (length o) (lengthTo top) ≡ false
     roomy = le-ltb (length o) (lengthTo top) (omega arith)
 
--- a loop that compares the list with bytes received
-pub other-length : (top internal : ℕ) (t : List Node) (bytes : List ℕ) {n : ℕ} → n ≡ lengthTo top → (length bytes ≡ n → ⊥) → false ≡ sameTo top internal t bytes
-unfolding sameTo
-other-length top internal t bytes e h = and-no _ _ (ne-eqb (length bytes) (lengthTo top) (λ q. h (q ∙ sym e)))
+-- a loop that compares bytes received with those sent
+unfoldable pub sameByte : List ℕ → List ℕ → ℕ → Bool
+sameByte sent bytes i = eqb (getD bytes i 0) (getD sent i 0)
 
-pub same-begun : (top internal : ℕ) (t : List Node) (bytes : List ℕ) → eqb (getD bytes 0 0) internal ≡ all (sameByteTo top internal t bytes) 1
-unfolding all listTo sameByteTo
+pub other-length : (sent bytes : List ℕ) {n : ℕ} → n ≡ length sent → (length bytes ≡ n → ⊥) → false ≡ sameBytes sent bytes
+unfolding sameBytes
+other-length sent bytes e h = and-no _ _ (ne-eqb (length bytes) (length sent) (λ q. h (q ∙ sym e)))
+
+pub same-end : (sent bytes : List ℕ) (i : ℕ) {n : ℕ} {b : Bool} → b ≡ all (sameByte sent bytes) i → n ≡ length sent → n ≡ length bytes → i ≤ n → n ≤ i → b ≡ sameBytes sent bytes
+unfolding sameBytes sameByte
+same-end sent bytes i e q r h k = and-yes _ _ _ (eq-eqb (length bytes) (length sent) (sym r ∙ q)) (all-end (sameByte sent bytes) i (length sent) e (omega arith) (omega arith))
+
+pub next-same : (sent bytes : List ℕ) (i : ℕ) {b : Bool} → b ≡ all (sameByte sent bytes) i → (b && eqb (getD bytes i 0) (getD sent i 0)) ≡ all (sameByte sent bytes) (i + 1)
+unfolding sameByte
+next-same sent bytes i e = all-step (sameByte sent bytes) i e refl
+
+-- of the whole list: byte 0 first, then each byte with the type of its position
+pub same-begun : (top internal : ℕ) (t : List Node) (bytes : List ℕ) → eqb (getD bytes 0 0) internal ≡ all (sameByte (listTo top internal t) bytes) 1
+unfolding all listTo sameByte
 same-begun top internal t bytes = refl
 
-pub same-step : (top internal : ℕ) (kinds bytes : List ℕ) (i : ℕ) {n : ℕ} {b : Bool} → b ≡ all (sameByteTo top internal (typed kinds) bytes) i → 1 ≤ i → n ≡ lengthTo top → i < n → (b && eqb (getD bytes i 0) (getD kinds (i - 1) 0)) ≡ all (sameByteTo top internal (typed kinds) bytes) (i + 1)
-unfolding sameByteTo
-same-step top internal kinds bytes i e l q h = all-step (sameByteTo top internal (typed kinds) bytes) i e (ap (eqb (getD bytes i 0)) (byte-read top internal kinds i (omega arith) (omega arith)))
+pub same-step : (top internal : ℕ) (kinds bytes : List ℕ) (i : ℕ) {n : ℕ} {b : Bool} → b ≡ all (sameByte (listTo top internal (typed kinds)) bytes) i → 1 ≤ i → n ≡ lengthTo top → i < n → (b && eqb (getD bytes i 0) (getD kinds (i - 1) 0)) ≡ all (sameByte (listTo top internal (typed kinds)) bytes) (i + 1)
+same-step top internal kinds bytes i {b = b} e l q h = ap (λ (x : ℕ). b && eqb (getD bytes i 0) x) (byte-read top internal kinds i (omega arith) (omega arith)) ∙ next-same (listTo top internal (typed kinds)) bytes i e
 
-pub same-end : (top internal : ℕ) (t : List Node) (bytes : List ℕ) (i : ℕ) {n : ℕ} {b : Bool} → b ≡ all (sameByteTo top internal t bytes) i → n ≡ lengthTo top → n ≡ length bytes → i ≤ n → n ≤ i → b ≡ sameTo top internal t bytes
-unfolding sameTo
-same-end top internal t bytes i e q r h k =
-    and-yes _ _ _ (eq-eqb (length bytes) (lengthTo top) (sym r ∙ q)) (all-end (sameByteTo top internal t bytes) i (lengthTo top) e (omega arith) (omega arith))
+-- over the columns it is the condensed list for a 1.0 board, and the whole one for another
+pub over-old : (version top internal : ℕ) (kinds versions : List ℕ) → version ≡ 1 → condensed internal kinds versions ≡ listOver version top internal kinds versions
+unfolding listOver
+over-old version top internal kinds versions h = choose-yes _ _ _ _ (eq-eqb version 1 h) refl
+
+pub over-later : (version top internal : ℕ) (kinds versions : List ℕ) → (version ≡ 1 → ⊥) → listTo top internal (typed kinds) ≡ listOver version top internal kinds versions
+unfolding listOver
+over-later version top internal kinds versions h = choose-no _ _ _ _ (ne-eqb version 1 h) refl

@@ -13,6 +13,7 @@ use Rattle.nodelist.specs.declared.Listing.{Listing}
 use Rattle.nodelist.specs.declared.Listing.the-variants.{Written, Refused}
 use Rattle.nodelist.proofs.list_length.Reads as list-length
 use Rattle.nodelist.proofs.write_list.Reads as write-list
+use Rattle.nodelist.proofs.condense.Reads as condense
 use Rattle.nodelist.proofs.same_list.Reads as same-list
 
 -- two answers that say the same are the same
@@ -34,5 +35,8 @@ out s = now (s .1 .1 .1 .0)
 pub unique-write-list : (κs : Lft × (Lft × Unit {0})) (a : Writes) (r q : Listing) (s t : Writes) → write-list.Post κs a r s → write-list.Post κs a q t → (r ≡ q) × (out s ≡ out t)
 unique-write-list κs a r q s t p p′ = (same-told r q (p .0 ∙ sym (p′ .0)), p .1 ∙ sym (p′ .1))
 
-pub unique-same-list : (κs : Lft × (Lft × Unit {0})) (a s t : _) (r q : Bool) → same-list.Post κs a r s → same-list.Post κs a q t → r ≡ q
+pub unique-condense : (κs : Lft × (Lft × Unit {0})) (a s t : _) (r q : List ℕ) → condense.Post κs a r s → condense.Post κs a q t → r ≡ q
+unique-condense κs a s t r q p p′ = p ∙ sym p′
+
+pub unique-same-list : (κs : Lft × (Lft × (Lft × Unit {0}))) (a s t : _) (r q : Bool) → same-list.Post κs a r s → same-list.Post κs a q t → r ≡ q
 unique-same-list κs a s t r q p p′ = p ∙ sym p′

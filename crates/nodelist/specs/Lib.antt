@@ -1,1 +1,2 @@
+pub mod Condensed
 pub mod List

@@ -4,14 +4,18 @@ use mathlib.Core.Bool.{Bool, _&&_}
 use mathlib.Core.List.{List, [], _∷_, map}
 use lib.ListN.{length, getD}
 use lib.Dec.{eqb, ltb}
+use Rattle.ground.specs.Choose.{choose}
 use Rattle.ground.specs.Below.{all, upFrom}
 use Rattle.ground.specs.Bytes.{laid}
 use Rattle.refusal.specs.Refusal.{Told, refuses, gives, ruled}
 use Rattle.refusal.specs.declared.Refusal.{Refusal}
 use Rattle.refusal.specs.declared.Refusal.the-variants.{NoRoom}
 use Rattle.board.specs.declared.Node.{Node}
+use Rattle.board.specs.Node.{isOld}
 use Rattle.board.specs.Table.{at}
+use Rattle.board.specs.Columns.{kindsOf, versionsOf, typed}
 use Rattle.board.specs.Wanted.{highestListed}
+use Rattle.nodelist.specs.Condensed.{condensed}
 use Rattle.nodelist.specs.declared.Listing.{Listing}
 use Rattle.nodelist.specs.declared.Listing.the-variants.{Written, Refused}
 
@@ -44,13 +48,17 @@ abbrev pub told : Listing → Told
 told (Written n) = gives (n ∷ [])
 told (Refused r) = refuses r
 
--- byte i received is byte i of the list
-unfoldable pub sameByte : ℕ → List Node → List ℕ → ℕ → Bool
-sameByte internal t bytes i = eqb (getD bytes i 0) (getD (nodeList internal t) i 0)
+-- the list for a board of a version: condensed for a 1.0 board, else the whole (02, C-15)
+unfoldable pub listFor : ℕ → ℕ → List Node → List ℕ
+listFor version internal t = choose (isOld version) (condensed internal (kindsOf t) (versionsOf t)) (nodeList internal t)
 
--- the bytes received are the list: as many, and each the same (01, "type 0x94 whose payload equals the list sent")
-unfoldable pub sameList : ℕ → List Node → List ℕ → Bool
-sameList internal t bytes = eqb (length bytes) (listLength t) && all (sameByte internal t bytes) (listLength t)
+-- the bytes received are those sent: as many, and each the same (01, "type 0x94 whose payload equals the list sent")
+unfoldable pub sameBytes : List ℕ → List ℕ → Bool
+sameBytes sent bytes = eqb (length bytes) (length sent) && all (λ i. eqb (getD bytes i 0) (getD sent i 0)) (length sent)
+
+-- the bytes received are the list for a board of a version (01, "Frame"; 02, C-15)
+abbrev pub sameList : ℕ → ℕ → List Node → List ℕ → Bool
+sameList version internal t bytes = sameBytes (listFor version internal t) bytes
 
 -- the list up to a position that is given, one of the forty: the code is told the highest listed one (01, "Node list payload"; house)
 unfoldable pub listTo : ℕ → ℕ → List Node → List ℕ
@@ -72,10 +80,6 @@ writtenTo top out = ruled (rulesTo top out) refuses (gives (lengthTo top ∷ [])
 abbrev pub outputTo : ℕ → ℕ → List Node → List ℕ → List ℕ
 outputTo top internal t out = ruled (rulesTo top out) (λ refusal. out) (laid (listTo top internal t) out)
 
--- byte i received is byte i of it (01, "type 0x94 whose payload equals the list sent")
-unfoldable pub sameByteTo : ℕ → ℕ → List Node → List ℕ → ℕ → Bool
-sameByteTo top internal t bytes i = eqb (getD bytes i 0) (getD (listTo top internal t) i 0)
-
--- the bytes received are as many, and each the same (01, "type 0x94 whose payload equals the list sent")
-unfoldable pub sameTo : ℕ → ℕ → List Node → List ℕ → Bool
-sameTo top internal t bytes = eqb (length bytes) (lengthTo top) && all (sameByteTo top internal t bytes) (lengthTo top)
+-- the list for a board of a version over the columns of types and versions, the whole one up to a position that is given (house)
+unfoldable pub listOver : ℕ → ℕ → ℕ → List ℕ → List ℕ → List ℕ
+listOver version top internal kinds versions = choose (isOld version) (condensed internal kinds versions) (listTo top internal (typed kinds))

@@ -23,19 +23,19 @@ use Rattle.stepping.specs.Deciding.{DecidesCounted}
 use Rattle.lent.specs.Lent.{inPlace}
 
 -- what `look` says of columns that were zeros
-abbrev pub LookSaid : Coordinator → List Node → Seen → List ℕ → List ℕ → List ℕ → Type 0
-LookSaid h ys s kinds indexes macs = (s .setup ≡ h .setup) × ((s .state ≡ stateOf h) × (digested (dg (s .ok) (s .top) (s .owed)) kinds indexes macs ≡ digestAll (h .setup .k) ys zeroed))
+abbrev pub LookSaid : Coordinator → List Node → Seen → List ℕ → List ℕ → List ℕ → List ℕ → Type 0
+LookSaid h ys s kinds indexes versions macs = (s .setup ≡ h .setup) × ((s .state ≡ stateOf h) × (digested (dg (s .ok) (s .top) (s .owed)) kinds indexes versions macs ≡ digestAll (h .setup .k) ys zeroed))
 
 -- forty records were seen
-looked-at : (h : Coordinator) (ys : List Node) (s : Seen) (kinds indexes macs : List ℕ) → LookSaid h ys s kinds indexes macs → length ys ≡ 40 → Sees s kinds indexes macs h ys
-looked-at h ys s kinds indexes macs said forty =
-    let noted = digest-columned s (h .setup .k) ys (digested (dg (s .ok) (s .top) (s .owed)) kinds indexes macs) forty (said .1 .1) in
+looked-at : (h : Coordinator) (ys : List Node) (s : Seen) (kinds indexes versions macs : List ℕ) → LookSaid h ys s kinds indexes versions macs → length ys ≡ 40 → Sees s kinds indexes versions macs h ys
+looked-at h ys s kinds indexes versions macs said forty =
+    let noted = digest-columned s (h .setup .k) ys (digested (dg (s .ok) (s .top) (s .owed)) kinds indexes versions macs) forty (said .1 .1) in
     record { forty = forty; setup = said .0; state = said .1 .0; each = noted .0; columns = λ ok. noted .1 (sym (noted .0) ∙ ok) refl refl }
 
-pub stepped-in-place : (h : Coordinator) (ys : List Node) (e : Event) (b out : List ℕ) (s : Seen) (kinds indexes macs : List ℕ) (y : Node) (p : List ℕ) (x : Change) (k : Coordinator) (us : List Node) (after : List ℕ)
-    → LookSaid h ys s kinds indexes macs → y ≡ at ys (s .state .stand .board) → p ≡ h .kept .payload → DecidesCounted (length ys) s y p kinds indexes macs e b x out after
+pub stepped-in-place : (h : Coordinator) (ys : List Node) (e : Event) (b out : List ℕ) (s : Seen) (kinds indexes versions macs : List ℕ) (y : Node) (p : List ℕ) (x : Change) (k : Coordinator) (us : List Node) (after : List ℕ)
+    → LookSaid h ys s kinds indexes versions macs → y ≡ at ys (s .state .stand .board) → p ≡ h .kept .payload → DecidesCounted (length ys) s y p kinds indexes versions macs e b x out after
     → (k ≡ changedFrom (s .state) x b h) × (us ≡ amended x ys)
     → (inPlace (x .outcome) k us ≡ shows (stepOf h ys e b (length out))) × (after ≡ laid (stepOf h ys e b (length out) .bytes) out)
-stepped-in-place h ys e b out s kinds indexes macs y p x k us after said ey ep decides made =
-    let decided = decides h ys refl (λ forty. (looked-at h ys s kinds indexes macs said forty, (ey ∙ ap (λ (st : State). at ys (st .stand .board)) (said .1 .0), ep))) in
+stepped-in-place h ys e b out s kinds indexes versions macs y p x k us after said ey ep decides made =
+    let decided = decides h ys refl (λ forty. (looked-at h ys s kinds indexes versions macs said forty, (ey ∙ ap (λ (st : State). at ys (st .stand .board)) (said .1 .0), ep))) in
     ((λ i. inPlace (x .outcome) ((made .0 ∙ changed-from x b h (said .1 .0)) i) (made .1 i)) ∙ decided .0, decided .1)

@@ -71,17 +71,17 @@ stepped a = stepOf (now (a .0)) (now (a .1 .0)) (a .1 .1 .0) (now (a .1 .1 .1 .0
 
 -- what C passes to a step: a number and what a join is made of, for the event
 abbrev Numbered : Type 0
-Numbered = RefT Coordinator × (RefT (List Node) × (ℕ × (ℕ × (ℕ × (ℕ × (RefT (List ℕ) × (RefT (List ℕ) × Unit {0})))))))
+Numbered = RefT Coordinator × (RefT (List Node) × (ℕ × (ℕ × (ℕ × (ℕ × (ℕ × (RefT (List ℕ) × (RefT (List ℕ) × Unit {0}))))))))
 
 abbrev numbered-output : Numbered → List ℕ
-numbered-output a = now (a .1 .1 .1 .1 .1 .1 .1 .0)
+numbered-output a = now (a .1 .1 .1 .1 .1 .1 .1 .1 .0)
 
 abbrev numbered : Numbered → After
-numbered a = stepOf (now (a .0)) (now (a .1 .0)) (eventOf (a .1 .1 .0) (a .1 .1 .1 .0) (a .1 .1 .1 .1 .0) (a .1 .1 .1 .1 .1 .0)) (now (a .1 .1 .1 .1 .1 .1 .0)) (length (numbered-output a))
+numbered a = stepOf (now (a .0)) (now (a .1 .0)) (eventOf (a .1 .1 .0) (a .1 .1 .1 .0) (a .1 .1 .1 .1 .0) (a .1 .1 .1 .1 .1 .0) (a .1 .1 .1 .1 .1 .1 .0)) (now (a .1 .1 .1 .1 .1 .1 .1 .0)) (length (numbered-output a))
 
--- what is passed to a change of one record: the position, and for a board that is listed its type, MAC and session
+-- what is passed to a change of one record: the position, and for a board that is listed its type, MAC, session and version
 abbrev Listings : Type 0
-Listings = RefT (List Node) × (ℕ × (ℕ × (ℕ × (ℕ × Unit {0}))))
+Listings = RefT (List Node) × (ℕ × (ℕ × (ℕ × (ℕ × (ℕ × Unit {0})))))
 
 abbrev Positions : Type 0
 Positions = RefT (List Node) × (ℕ × Unit {0})
@@ -108,7 +108,7 @@ module _ {M : Type 1} (𝓤 : URA M) (H : Heap 𝓤) (A : Atoms 𝓤) (at-mem : 
   unique-nadrelgos-list κs a r q s t = two-facts 𝓤 (amends r (now (s .0)) ≡ does) (amends q (now (t .0)) ≡ does) _ (same-amends r q _ _ does)
     where
       does : Amends
-      does = amendOf (length (now (a .0))) (now (a .0)) (listing (now (a .0)) (a .1 .0) (a .1 .1 .0) (a .1 .1 .1 .0) (a .1 .1 .1 .1 .0))
+      does = amendOf (length (now (a .0))) (now (a .0)) (listing (now (a .0)) (a .1 .0) (a .1 .1 .0) (a .1 .1 .1 .0) (a .1 .1 .1 .1 .0) (a .1 .1 .1 .1 .1 .0))
 
   pub unique-nadrelgos-clear : (κs : Lft × Unit {0}) (a : Positions) (r q : ℕ) (s t : Positions)
       → ent 𝓤 (sep 𝓤 (clear.clauses 𝓤 H A at-mem run κs a .ensures tt r s) (clear.clauses 𝓤 H A at-mem run κs a .ensures tt q t)) (fact 𝓤 ((r ≡ q) × (now (s .0) ≡ now (t .0))))

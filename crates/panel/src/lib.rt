@@ -49,8 +49,16 @@ pub fn step(
 {
     let mut kinds = [0u8; 40];
     let mut indexes = [0u8; 40];
+    let mut versions = [0u8; 40];
     let mut macs = [0u64; 40];
-    let seen = place::look(coordinator, nodes, &mut kinds, &mut indexes, &mut macs);
+    let seen = place::look(
+        coordinator,
+        nodes,
+        &mut kinds,
+        &mut indexes,
+        &mut versions,
+        &mut macs,
+    );
     let node = place::record_at(nodes, seen.state.stand.board);
     let change = stepping::counted(
         nodes.len(),
@@ -59,6 +67,7 @@ pub fn step(
         &coordinator.kept.payload,
         &kinds,
         &indexes,
+        &versions,
         &macs,
         event,
         received,
@@ -76,11 +85,12 @@ pub extern "C" fn nadrelgos_list(
     kind: u8,
     mac: u64,
     session: u64,
+    version: u8,
 ) -> u64
-    ensures { λ r. ⌜ amends r (now (nodes .exit)) ≡ amendOf (length (now (nodes .entry))) (now (nodes .entry)) (listing (now (nodes .entry)) position kind mac session) ⌝ }
+    ensures { λ r. ⌜ amends r (now (nodes .exit)) ≡ amendOf (length (now (nodes .entry))) (now (nodes .entry)) (listing (now (nodes .entry)) position kind mac session version) ⌝ }
 {
     let n = nodes.len();
-    let r = lent::list_edit(n, position, kind, mac, session);
+    let r = lent::list_edit(n, position, kind, mac, session, version);
     place::amend(nodes, r.from, r.to, r.edit);
     place::number(nodes, r.all);
     r.answer
@@ -187,12 +197,13 @@ pub extern "C" fn nadrelgos_step(
     kind: u8,
     mac: u64,
     session: u64,
+    version: u8,
     received: &[u8],
     out: &mut [u8],
 ) -> u64
-    ensures { λ r. ⌜ (facing r (now (coordinator .exit)) (now (nodes .exit)) ≡ faced (stepOf (now (coordinator .entry)) (now (nodes .entry)) (eventOf number kind mac session) (now (received .entry)) (length (now (out .entry))))) × (now (out .exit) ≡ laid (stepOf (now (coordinator .entry)) (now (nodes .entry)) (eventOf number kind mac session) (now (received .entry)) (length (now (out .entry))) .bytes) (now (out .entry))) ⌝ }
+    ensures { λ r. ⌜ (facing r (now (coordinator .exit)) (now (nodes .exit)) ≡ faced (stepOf (now (coordinator .entry)) (now (nodes .entry)) (eventOf number kind mac session version) (now (received .entry)) (length (now (out .entry))))) × (now (out .exit) ≡ laid (stepOf (now (coordinator .entry)) (now (nodes .entry)) (eventOf number kind mac session version) (now (received .entry)) (length (now (out .entry))) .bytes) (now (out .entry))) ⌝ }
 {
-    let e = lent::event_of(number, kind, mac, session);
+    let e = lent::event_of(number, kind, mac, session, version);
     let o = step(coordinator, nodes, e, received, out);
     lent::pack(o)
 }

@@ -45,14 +45,14 @@ abbrev Amends : Type 0
 Amends = RefT (List Node) × (ℕ × (ℕ × (Edit × Unit {0})))
 
 abbrev Looks : Type 0
-Looks = RefT Coordinator × (RefT (List Node) × (RefT (List ℕ) × (RefT (List ℕ) × (RefT (List ℕ) × Unit {0}))))
+Looks = RefT Coordinator × (RefT (List Node) × (RefT (List ℕ) × (RefT (List ℕ) × (RefT (List ℕ) × (RefT (List ℕ) × Unit {0})))))
 
 -- what looking says of its answer and of the columns at exit
 abbrev SaysSeen : Looks → Seen → Looks → Type 0
 SaysSeen a r s =
     (r .setup ≡ now (a .0) .setup) ×
     ((r .state ≡ stateOf (now (a .0))) ×
-    (digested (dg (r .ok) (r .top) (r .owed)) (now (s .1 .1 .0)) (now (s .1 .1 .1 .0)) (now (s .1 .1 .1 .1 .0)) ≡ digestAll (now (a .0) .setup .k) (now (a .1 .0)) (digested (dg true 0 0) (now (a .1 .1 .0)) (now (a .1 .1 .1 .0)) (now (a .1 .1 .1 .1 .0)))))
+    (digested (dg (r .ok) (r .top) (r .owed)) (now (s .1 .1 .0)) (now (s .1 .1 .1 .0)) (now (s .1 .1 .1 .1 .0)) (now (s .1 .1 .1 .1 .1 .0)) ≡ digestAll (now (a .0) .setup .k) (now (a .1 .0)) (digested (dg true 0 0) (now (a .1 .1 .0)) (now (a .1 .1 .1 .0)) (now (a .1 .1 .1 .1 .0)) (now (a .1 .1 .1 .1 .1 .0)))))
 
 -- what was seen is one where its parts are
 same-seen : (r q : Seen) → r .setup ≡ q .setup → r .state ≡ q .state → dg (r .ok) (r .top) (r .owed) ≡ dg (q .ok) (q .top) (q .owed) → r ≡ q
@@ -83,9 +83,9 @@ module _ {M : Type 1} (𝓤 : URA M) (H : Heap 𝓤) (A : Atoms 𝓤) (at-mem : 
   unique-number κs a r q s t =
       two-facts 𝓤 (now (s .0) ≡ numberedFirst (now (a .0)) (min (length (now (a .0))) (a .1 .0))) (now (t .0) ≡ numberedFirst (now (a .0)) (min (length (now (a .0))) (a .1 .0))) _ (λ p p′. p ∙ sym p′)
 
-  pub unique-look : (κs : Lft × (Lft × (Lft × (Lft × (Lft × Unit {0}))))) (a : Looks) (r q : Seen) (s t : Looks)
+  pub unique-look : (κs : Lft × (Lft × (Lft × (Lft × (Lft × (Lft × Unit {0})))))) (a : Looks) (r q : Seen) (s t : Looks)
       → ent 𝓤 (sep 𝓤 (look.clauses 𝓤 H A at-mem run κs a .ensures tt r s) (look.clauses 𝓤 H A at-mem run κs a .ensures tt q t))
-      (fact 𝓤 ((r ≡ q) × ((now (s .1 .1 .0) ≡ now (t .1 .1 .0)) × ((now (s .1 .1 .1 .0) ≡ now (t .1 .1 .1 .0)) × (now (s .1 .1 .1 .1 .0) ≡ now (t .1 .1 .1 .1 .0))))))
+      (fact 𝓤 ((r ≡ q) × ((now (s .1 .1 .0) ≡ now (t .1 .1 .0)) × ((now (s .1 .1 .1 .0) ≡ now (t .1 .1 .1 .0)) × ((now (s .1 .1 .1 .1 .0) ≡ now (t .1 .1 .1 .1 .0)) × (now (s .1 .1 .1 .1 .1 .0) ≡ now (t .1 .1 .1 .1 .1 .0)))))))
   unique-look κs a r q s t =
       two-facts 𝓤 (SaysSeen a r s) (SaysSeen a q t) _ (λ p p′.
       let d = same-digested (p .1 .1 ∙ sym (p′ .1 .1)) in

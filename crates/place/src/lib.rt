@@ -25,9 +25,10 @@ fn digest(
     nodes: &[Node],
     kinds: &mut [u8; 40],
     indexes: &mut [u8; 40],
+    versions: &mut [u8; 40],
     macs: &mut [u64; 40],
 ) -> Digest
-    ensures { λ r. ⌜ digested r (now (kinds .exit)) (now (indexes .exit)) (now (macs .exit)) ≡ digestAll k (now (nodes .entry)) (digested (dg true 0 0) (now (kinds .entry)) (now (indexes .entry)) (now (macs .entry))) ⌝ }
+    ensures { λ r. ⌜ digested r (now (kinds .exit)) (now (indexes .exit)) (now (versions .exit)) (now (macs .exit)) ≡ digestAll k (now (nodes .entry)) (digested (dg true 0 0) (now (kinds .entry)) (now (indexes .entry)) (now (versions .entry)) (now (macs .entry))) ⌝ }
 {
     let m = ground::least(nodes.len(), 40);
     let mut d = Digest {
@@ -37,7 +38,7 @@ fn digest(
     };
     let mut i = 0;
     while i < m {
-        d = look::note(d, k, i, nodes[i], kinds, indexes, macs);
+        d = look::note(d, k, i, nodes[i], kinds, indexes, versions, macs);
         i = i + 1;
     }
     d
@@ -153,13 +154,14 @@ pub fn look(
     nodes: &[Node],
     kinds: &mut [u8; 40],
     indexes: &mut [u8; 40],
+    versions: &mut [u8; 40],
     macs: &mut [u64; 40],
 ) -> Seen
-    ensures { λ r. ⌜ (r .setup ≡ now (coordinator .entry) .setup) × ((r .state ≡ stateOf (now (coordinator .entry))) × (digested (dg (r .ok) (r .top) (r .owed)) (now (kinds .exit)) (now (indexes .exit)) (now (macs .exit)) ≡ digestAll (now (coordinator .entry) .setup .k) (now (nodes .entry)) (digested (dg true 0 0) (now (kinds .entry)) (now (indexes .entry)) (now (macs .entry))))) ⌝ }
+    ensures { λ r. ⌜ (r .setup ≡ now (coordinator .entry) .setup) × ((r .state ≡ stateOf (now (coordinator .entry))) × (digested (dg (r .ok) (r .top) (r .owed)) (now (kinds .exit)) (now (indexes .exit)) (now (versions .exit)) (now (macs .exit)) ≡ digestAll (now (coordinator .entry) .setup .k) (now (nodes .entry)) (digested (dg true 0 0) (now (kinds .entry)) (now (indexes .entry)) (now (versions .entry)) (now (macs .entry))))) ⌝ }
 {
     let setup = coordinator.setup;
     let state = state_of(coordinator);
-    let d = digest(setup.k, nodes, kinds, indexes, macs);
+    let d = digest(setup.k, nodes, kinds, indexes, versions, macs);
     Seen {
         setup: setup,
         state: state,

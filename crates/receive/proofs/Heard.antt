@@ -25,7 +25,7 @@ use Rattle.board.specs.Wanted.{wantedAt}
 use Rattle.board.specs.Change.{heard, renewed, oweAll}
 use Rattle.board.proofs.Changes.{at-put, at-put-other, owe-all-keeps}
 use Rattle.board.proofs.Numbered.{relisted-keeps}
-use Rattle.setup.specs.Setup.{address}
+use Rattle.setup.specs.Setup.{address, subnetOf}
 use Rattle.setup.specs.Fitness.{FitSetup}
 use Rattle.message.specs.Message.{signedHeader, signed, signedFrame, ackCode}
 use Rattle.message.proofs.Messages.{Form, ack-form, own-fields, own-back, signed-size, signed-small}
@@ -93,7 +93,7 @@ module _ (t : List Node) (board : ℕ) (from : 1 ≤ board) (upTo : board ≤ le
   unfolding choose
   cleared-acking c room says after e = go (ltb room 29) e
     where
-      go : (b : Bool) → choose b (refused c t NoRoom) (accepted after (hear t board) says (signedFrame (c .setup) t board ackCode)) .says .number ≡ 0 → Cleared t board (choose b (refused c t NoRoom) (accepted after (hear t board) says (signedFrame (c .setup) t board ackCode)) .nodes)
+      go : (b : Bool) → choose b (refused c t NoRoom) (accepted after (hear t board) says (signedFrame (c .setup) t board (at t board .version) ackCode)) .says .number ≡ 0 → Cleared t board (choose b (refused c t NoRoom) (accepted after (hear t board) says (signedFrame (c .setup) t board (at t board .version) ackCode)) .nodes)
       go true q = absurd (not-zero NoRoom q)
       go false q = cleared-put (heard (at t board)) refl
 
@@ -122,9 +122,9 @@ module _ (t : List Node) where
       go false = refl
 
   -- a join changes those of nobody but who joins
-  spared-join : (c : Coordinator) (kind mac session : ℕ) → Spared t (joinOf c t kind mac session .joined) (joinOf c t kind mac session .nodes)
+  spared-join : (c : Coordinator) (kind mac session version : ℕ) → Spared t (joinOf c t kind mac session version .joined) (joinOf c t kind mac session version .nodes)
   unfolding joinOf misses
-  spared-join c kind mac session p = by-rules Spares (joinRules c t kind mac) (refused c t) _ (each {Q = λ (r : Refusal). Spares (refused c t r)} (λ r. λ ne. refl) (joinRules c t kind mac)) (λ ok. λ ne. relisted-keeps _ p .misses ∙ ap misses (at-put-other t _ p _ ne))
+  spared-join c kind mac session version p = by-rules Spares (joinRules c t kind mac version) (refused c t) _ (each {Q = λ (r : Refusal). Spares (refused c t r)} (λ r. λ ne. refl) (joinRules c t kind mac version)) (λ ok. λ ne. relisted-keeps _ p .misses ∙ ap misses (at-put-other t _ p _ ne))
     where
       Spares : After → Type 0
       Spares a = (p ≡ a .joined → ⊥) → at (a .nodes) p .misses ≡ at t p .misses
@@ -135,14 +135,14 @@ module _ (t : List Node) where
     spared-outcome f p ne = go (eqb (joinFound c t f .joined) position) refl
       where
         go : (b : Bool) → eqb (joinFound c t f .joined) position ≡ b → at (choose b (joinFound c t f) (resting (ended c) (hearMac t position (f .mac)) 0 0) .nodes) p .misses ≡ at t p .misses
-        go true e = spared-join (ended c) (f .kind) (f .mac) (f .session) p (λ q. ne (q ∙ eqb-true _ _ e))
+        go true e = spared-join (ended c) (f .kind) (f .mac) (f .session) (f .version) p (λ q. ne (q ∙ eqb-true _ _ e))
         go false e = spared-hear position (f .mac) p ne
 
     spared-settled : (f : Found) (room : ℕ) → Spared t position (settled c t position f room .nodes)
     unfolding choose
     spared-settled f room p ne = go (ltb room 29)
       where
-        go : (b : Bool) → at (choose b (refused c t NoRoom) (acknowledged (c .setup) position (outcome c t position f)) .nodes) p .misses ≡ at t p .misses
+        go : (b : Bool) → at (choose b (refused c t NoRoom) (acknowledged (c .setup) position (f .version) (outcome c t position f)) .nodes) p .misses ≡ at t p .misses
         go true = refl
         go false = spared-outcome f p ne
 
@@ -154,12 +154,12 @@ module _ (t : List Node) where
         go true = refl
         go false = refl
 
-    spared-replied : (reply : Reply) (payload : List ℕ) (room : ℕ) → Spared t position (repliedAs reply position c t payload room .nodes)
-    spared-replied Discovered payload room p ne = ap (λ (u : List Node). at u p .misses) (spared-answered (discovered payload))
-    spared-replied AckCame payload room p ne = spared-hear position (macAfter payload) p ne
-    spared-replied Identified payload room p ne = spared-settled (identified payload) room p ne
-    spared-replied Assigned payload room p ne = spared-settled (c .found) room p ne
-    spared-replied (NotTaken r) payload room p ne = refl
+    spared-replied : (reply : Reply) (packet : ℕ) (payload : List ℕ) (room : ℕ) → Spared t position (repliedAs reply position c t packet payload room .nodes)
+    spared-replied Discovered packet payload room p ne = ap (λ (u : List Node). at u p .misses) (spared-answered (discovered packet payload))
+    spared-replied AckCame packet payload room p ne = spared-hear position (macAfter payload) p ne
+    spared-replied Identified packet payload room p ne = spared-settled (identified (c .found .version) payload) room p ne
+    spared-replied Assigned packet payload room p ne = spared-settled (c .found) room p ne
+    spared-replied (NotTaken r) packet payload room p ne = refl
 
 -- the answer is deliver or transmit
 abbrev pub acks : Told → Bool
@@ -175,7 +175,7 @@ silent-refusal c t r = (refl, rw (ne-eqb (numberOf r) 0 (not-zero r)) refl)
 -- what a frame writes in a wait: nothing, or the ACK to the board
 module _ (e : Exchange) (board requester : ℕ) (c : Coordinator) (t : List Node) (h : Header) (p : List ℕ) (room : ℕ) where
   abbrev Written : After → Type 0
-  Written a = (a .bytes ≡ signedFrame (c .setup) t board ackCode) × (acks (a .says) ≡ true)
+  Written a = (a .bytes ≡ signedFrame (c .setup) t board (at t board .version) ackCode) × (acks (a .says) ≡ true)
 
   written-acked : (e : Exchange) → Silent (acked e board requester c (hearAck t board (ackSession p)))
   written-acked Offer = (refl, refl)
@@ -187,7 +187,7 @@ module _ (e : Exchange) (board requester : ℕ) (c : Coordinator) (t : List Node
   unfolding choose
   written-acking says after q = go (ltb room 29)
     where
-      go : (b : Bool) → Silent (choose b (refused c t NoRoom) (accepted after (hear t board) says (signedFrame (c .setup) t board ackCode))) ⊎ Written (choose b (refused c t NoRoom) (accepted after (hear t board) says (signedFrame (c .setup) t board ackCode)))
+      go : (b : Bool) → Silent (choose b (refused c t NoRoom) (accepted after (hear t board) says (signedFrame (c .setup) t board (at t board .version) ackCode))) ⊎ Written (choose b (refused c t NoRoom) (accepted after (hear t board) says (signedFrame (c .setup) t board (at t board .version) ackCode)))
       go true = inl (refl, refl)
       go false = inr (refl, q)
 
@@ -202,15 +202,15 @@ module _ (e : Exchange) (board requester : ℕ) (c : Coordinator) (t : List Node
 -- what a frame writes in the exchange by which a board joins: nothing, or from the address at stake the ACK to it, with the index of the records that the step leaves
 module _ (position : ℕ) (c : Coordinator) (t : List Node) (h : Header) (p : List ℕ) (room : ℕ) where
   abbrev Settled : After → Type 0
-  Settled a = (a .bytes ≡ signedFrame (c .setup) (a .nodes) position ackCode) × (acks (a .says) ≡ true)
+  Settled a = (a .bytes ≡ signedFrame (c .setup) (a .nodes) position (c .found .version) ackCode) × (acks (a .says) ≡ true)
 
-  settled-written : (f : Found) → Silent (settled c t position f room) ⊎ Settled (settled c t position f room)
+  settled-written : (f : Found) → f .version ≡ c .found .version → Silent (settled c t position f room) ⊎ Settled (settled c t position f room)
   unfolding choose
-  settled-written f = go (ltb room 29)
+  settled-written f same = go (ltb room 29)
     where
-      go : (b : Bool) → Silent (choose b (refused c t NoRoom) (acknowledged (c .setup) position (outcome c t position f))) ⊎ Settled (choose b (refused c t NoRoom) (acknowledged (c .setup) position (outcome c t position f)))
+      go : (b : Bool) → Silent (choose b (refused c t NoRoom) (acknowledged (c .setup) position (f .version) (outcome c t position f))) ⊎ Settled (choose b (refused c t NoRoom) (acknowledged (c .setup) position (f .version) (outcome c t position f)))
       go true = inl (refl, refl)
-      go false = inr (refl, refl)
+      go false = inr (ap (λ (v : ℕ). signedFrame (c .setup) (outcome c t position f .nodes) position v ackCode) same, refl)
 
   answered-silent : (f : Found) → Silent (answered c t f)
   unfolding choose
@@ -220,11 +220,11 @@ module _ (position : ℕ) (c : Coordinator) (t : List Node) (h : Header) (p : Li
       go true = (refl, refl)
       go false = (refl, refl)
 
-  replied-written : (reply : Reply) → Silent (repliedAs reply position c t p room) ⊎ Settled (repliedAs reply position c t p room)
-  replied-written Discovered = inl (answered-silent (discovered p))
+  replied-written : (reply : Reply) → Silent (repliedAs reply position c t (h .packet) p room) ⊎ Settled (repliedAs reply position c t (h .packet) p room)
+  replied-written Discovered = inl (answered-silent (discovered (h .packet) p))
   replied-written AckCame = inl (refl, refl)
-  replied-written Identified = settled-written (identified p)
-  replied-written Assigned = settled-written (c .found)
+  replied-written Identified = settled-written (identified (c .found .version) p) refl
+  replied-written Assigned = settled-written (c .found) refl
   replied-written (NotTaken r) = inl (silent-refusal c t r)
 
   -- in search nobody has an address, and nothing is written
@@ -232,14 +232,14 @@ module _ (position : ℕ) (c : Coordinator) (t : List Node) (h : Header) (p : Li
   unfolding heardInSearch choose
   search-silent = go (not (isDiscovery (h .message) p))
     where
-      go : (b : Bool) → Silent (repliedAs (choose b (NotTaken UnexpectedType) Discovered) position c t p room)
+      go : (b : Bool) → Silent (repliedAs (choose b (NotTaken UnexpectedType) Discovered) position c t (h .packet) p room)
       go true = silent-refusal c t UnexpectedType
-      go false = answered-silent (discovered p)
+      go false = answered-silent (discovered (h .packet) p)
 
-  from-stake : (reply : Reply) → Silent (repliedAs reply position c t p room) ⊎ ((address (c .setup) position ≡ address (c .setup) position) × Settled (repliedAs reply position c t p room))
+  from-stake : (reply : Reply) → Silent (repliedAs reply position c t (h .packet) p room) ⊎ ((address (c .setup) position ≡ address (c .setup) position) × Settled (repliedAs reply position c t (h .packet) p room))
   from-stake reply = go (replied-written reply)
     where
-      go : Silent (repliedAs reply position c t p room) ⊎ Settled (repliedAs reply position c t p room) → Silent (repliedAs reply position c t p room) ⊎ ((address (c .setup) position ≡ address (c .setup) position) × Settled (repliedAs reply position c t p room))
+      go : Silent (repliedAs reply position c t (h .packet) p room) ⊎ Settled (repliedAs reply position c t (h .packet) p room) → Silent (repliedAs reply position c t (h .packet) p room) ⊎ ((address (c .setup) position ≡ address (c .setup) position) × Settled (repliedAs reply position c t (h .packet) p room))
       go (inl silent) = inl silent
       go (inr written) = inr (refl, written)
 
@@ -326,37 +326,37 @@ heard-cleared c t b room a k = subst (λ (x : After). Cleared t (k .board) (x .n
 
 -- and one accepted in the exchange by which a board joins changes those of nobody but who is listed at the position at stake
 pub sought-spared : (c : Coordinator) (t : List Node) (b : List ℕ) (room : ℕ) (k : Sought c t b room) → Spared t (k .position) (receiveOf c t b room .nodes)
-sought-spared c t b room k = subst (λ (x : After). Spared t (k .position) (x .nodes)) (sym (k .does)) (spared-replied t c (k .position) (replyIn (k .part) (k .position) c (headerOf b) (payload b)) (payload b) room)
+sought-spared c t b room k = subst (λ (x : After). Spared t (k .position) (x .nodes)) (sym (k .does)) (spared-replied t c (k .position) (replyIn (k .part) (k .position) c (headerOf b) (payload b)) (headerOf b .packet) (payload b) room)
 
--- the ACK as its receiver reads it: to the sender of the frame, from 255, our subnet, method 0, parameter 1 0, the board's index on record, type 165, message 0, packet number 0x80;
--- in its payload of 17 bytes code 6, our MAC and our session (01, "Turn": "Own frames"; 003, Table 49)
-pub record AckTo (c : Coordinator) (t : List Node) (board source : ℕ) (bytes : List ℕ) : Type 0 where
+-- the ACK as its receiver reads it: to the sender of the frame, from 255, the subnet of a version, method 0, parameter 1 0, the board's index on record, type 165, message 0, packet number 0x80;
+-- in its payload of 17 bytes code 6, our MAC and our session (01, "Turn": "Own frames"; 003, Table 49; 02, C-15)
+pub record AckTo (c : Coordinator) (t : List Node) (board version source : ℕ) (bytes : List ℕ) : Type 0 where
   pub sender : source ≡ address (c .setup) board
-  pub reads : reading (c .setup .subnet) bytes ≡ gives (source ∷ 255 ∷ c .setup .subnet ∷ 0 ∷ 0 ∷ at t board .index ∷ 165 ∷ 0 ∷ 128 ∷ 17 ∷ [])
-  pub form : c .setup .session < 2 ^ 64 → Form 6 (c .setup .mac) (c .setup .session) (payloadOf (c .setup .subnet) bytes)
+  pub reads : reading (subnetOf (c .setup) version) bytes ≡ gives (source ∷ 255 ∷ subnetOf (c .setup) version ∷ 0 ∷ 0 ∷ at t board .index ∷ 165 ∷ 0 ∷ 128 ∷ 17 ∷ [])
+  pub form : c .setup .session < 2 ^ 64 → Form 6 (c .setup .mac) (c .setup .session) (payloadOf (subnetOf (c .setup) version) bytes)
 
-ack-to : (c : Coordinator) (t : List Node) (board source : ℕ) → FitSetup (c .setup) → source ≡ address (c .setup) board → AckTo c t board source (signedFrame (c .setup) t board ackCode)
-ack-to c t board source f e =
+ack-to : (c : Coordinator) (t : List Node) (board version source : ℕ) → FitSetup (c .setup) → source ≡ address (c .setup) board → AckTo c t board version source (signedFrame (c .setup) t board version ackCode)
+ack-to c t board version source f e =
     record {
       sender = e;
-      reads = back .0 ∙ ap (λ (l : List ℕ). gives (l ++ length (signed (c .setup) ackCode) ∷ [])) (own-fields (c .setup) board (at t board .index) 0 128) ∙ (λ i. gives (sym e i ∷ 255 ∷ c .setup .subnet ∷ 0 ∷ 0 ∷ at t board .index ∷ 165 ∷ 0 ∷ 128 ∷ signed-size (c .setup) ackCode i ∷ []));
+      reads = back .0 ∙ ap (λ (l : List ℕ). gives (l ++ length (signed (c .setup) ackCode) ∷ [])) (own-fields (c .setup) board version (at t board .index) 0 128) ∙ (λ i. gives (sym e i ∷ 255 ∷ subnetOf (c .setup) version ∷ 0 ∷ 0 ∷ at t board .index ∷ 165 ∷ 0 ∷ 128 ∷ signed-size (c .setup) ackCode i ∷ []));
       form = λ l. subst (Form 6 (c .setup .mac) (c .setup .session)) (sym (back .1)) (ack-form (c .setup) (omega (arith, f .mac .below)) l);
     }
   where
-    back : (reading (c .setup .subnet) (signedFrame (c .setup) t board ackCode) ≡ gives (fields (signedHeader (c .setup) board (at t board .index)) ++ length (signed (c .setup) ackCode) ∷ [])) × (payloadOf (c .setup .subnet) (signedFrame (c .setup) t board ackCode) ≡ signed (c .setup) ackCode)
-    back = own-back (c .setup) board (at t board .index) 0 128 (signed (c .setup) ackCode) (signed-small (c .setup) ackCode)
+    back : (reading (subnetOf (c .setup) version) (signedFrame (c .setup) t board version ackCode) ≡ gives (fields (signedHeader (c .setup) board version (at t board .index)) ++ length (signed (c .setup) ackCode) ∷ [])) × (payloadOf (subnetOf (c .setup) version) (signedFrame (c .setup) t board version ackCode) ≡ signed (c .setup) ackCode)
+    back = own-back (c .setup) board version (at t board .index) 0 128 (signed (c .setup) ackCode) (signed-small (c .setup) ackCode)
 
 -- where the panel delivers or transmits it writes an ACK that reads well to the sender of the frame, and elsewhere nothing
-abbrev pub Answers : Coordinator → List Node → ℕ → ℕ → After → Type 0
-Answers c t board source a = Silent a ⊎ (AckTo c t board source (a .bytes) × (acks (a .says) ≡ true))
+abbrev pub Answers : Coordinator → List Node → ℕ → ℕ → ℕ → After → Type 0
+Answers c t board version source a = Silent a ⊎ (AckTo c t board version source (a .bytes) × (acks (a .says) ≡ true))
 
--- phase by phase: in a wait for a board the ACK is to that board; in the exchange by which a board joins it is to the position at stake, with the index of the records that the frame leaves (02, C-11)
+-- phase by phase: in a wait for a board the ACK is to that board, in the subnet of its version; in the exchange by which a board joins it is to the position at stake, in the subnet of what was discovered, with the index of the records that the frame leaves (02, C-11 and C-15)
 abbrev pub AnswersIn : Phase → Coordinator → List Node → ℕ → After → Type 0
 AnswersIn Resting c t source a = Silent a
-AnswersIn (Awaiting board exchange requester came) c t source a = Answers c t board source a
+AnswersIn (Awaiting board exchange requester came) c t source a = Answers c t board (at t board .version) source a
 AnswersIn (ForwardDue board requester) c t source a = Silent a
 AnswersIn (ReturnDue board) c t source a = Silent a
-AnswersIn (Seeking position part) c t source a = Answers c (a .nodes) position source a
+AnswersIn (Seeking position part) c t source a = Answers c (a .nodes) position (c .found .version) source a
 AnswersIn Unknown c t source a = Silent a
 
 silent-in : (w : Phase) (c : Coordinator) (t : List Node) (source : ℕ) (a : After) → Silent a → AnswersIn w c t source a
@@ -375,22 +375,22 @@ module _ (c : Coordinator) (t : List Node) (b : List ℕ) (room : ℕ) where
   source = headerOf b .source
 
   -- bytes that are the ACK to a position, with the index in some records, read as one
-  answers : (board : ℕ) (u : List Node) → fits c t ≡ true → source ≡ address (c .setup) board → (a .bytes ≡ signedFrame (c .setup) u board ackCode) × (acks (a .says) ≡ true) → Answers c u board source a
-  answers board u f e (w, q) = inr (subst (AckTo c u board source) (sym w) (ack-to c u board source (fit-told c t f .setup) e), q)
+  answers : (board version : ℕ) (u : List Node) → fits c t ≡ true → source ≡ address (c .setup) board → (a .bytes ≡ signedFrame (c .setup) u board version ackCode) × (acks (a .says) ≡ true) → Answers c u board version source a
+  answers board version u f e (w, q) = inr (subst (AckTo c u board version source) (sym w) (ack-to c u board version source (fit-told c t f .setup) e), q)
 
-  in-wait : (k : Taken c t b room) → Answers c t (k .board) source a
-  in-wait k = go (subst (λ (x : After). Silent x ⊎ ((x .bytes ≡ signedFrame (c .setup) t (k .board) ackCode) × (acks (x .says) ≡ true))) (sym (k .does)) (written-taken (k .exchange) (k .board) (k .requester) c t (headerOf b) (payload b) room (heardIn (k .exchange) (k .board) (k .came) c t (headerOf b) (payload b))))
+  in-wait : (k : Taken c t b room) → Answers c t (k .board) (at t (k .board) .version) source a
+  in-wait k = go (subst (λ (x : After). Silent x ⊎ ((x .bytes ≡ signedFrame (c .setup) t (k .board) (at t (k .board) .version) ackCode) × (acks (x .says) ≡ true))) (sym (k .does)) (written-taken (k .exchange) (k .board) (k .requester) c t (headerOf b) (payload b) room (heardIn (k .exchange) (k .board) (k .came) c t (headerOf b) (payload b))))
     where
-      go : Silent a ⊎ ((a .bytes ≡ signedFrame (c .setup) t (k .board) ackCode) × (acks (a .says) ≡ true)) → Answers c t (k .board) source a
+      go : Silent a ⊎ ((a .bytes ≡ signedFrame (c .setup) t (k .board) (at t (k .board) .version) ackCode) × (acks (a .says) ≡ true)) → Answers c t (k .board) (at t (k .board) .version) source a
       go (inl s) = inl s
-      go (inr w) = answers (k .board) t (k .fit) (k .sender) w
+      go (inr w) = answers (k .board) (at t (k .board) .version) t (k .fit) (k .sender) w
 
-  in-exchange : (k : Sought c t b room) → Answers c (a .nodes) (k .position) source a
-  in-exchange k = go (subst (λ (x : After). Silent x ⊎ ((sourceIn (k .part) (c .setup) (k .position) ≡ address (c .setup) (k .position)) × ((x .bytes ≡ signedFrame (c .setup) (x .nodes) (k .position) ackCode) × (acks (x .says) ≡ true)))) (sym (k .does)) (sought-written (k .position) c t (headerOf b) (payload b) room (k .part)))
+  in-exchange : (k : Sought c t b room) → Answers c (a .nodes) (k .position) (c .found .version) source a
+  in-exchange k = go (subst (λ (x : After). Silent x ⊎ ((sourceIn (k .part) (c .setup) (k .position) ≡ address (c .setup) (k .position)) × ((x .bytes ≡ signedFrame (c .setup) (x .nodes) (k .position) (c .found .version) ackCode) × (acks (x .says) ≡ true)))) (sym (k .does)) (sought-written (k .position) c t (headerOf b) (payload b) room (k .part)))
     where
-      go : Silent a ⊎ ((sourceIn (k .part) (c .setup) (k .position) ≡ address (c .setup) (k .position)) × ((a .bytes ≡ signedFrame (c .setup) (a .nodes) (k .position) ackCode) × (acks (a .says) ≡ true))) → Answers c (a .nodes) (k .position) source a
+      go : Silent a ⊎ ((sourceIn (k .part) (c .setup) (k .position) ≡ address (c .setup) (k .position)) × ((a .bytes ≡ signedFrame (c .setup) (a .nodes) (k .position) (c .found .version) ackCode) × (acks (a .says) ≡ true))) → Answers c (a .nodes) (k .position) (c .found .version) source a
       go (inl s) = inl s
-      go (inr (from, w)) = answers (k .position) (a .nodes) (k .fit) (k .sender ∙ from) w
+      go (inr (from, w)) = answers (k .position) (c .found .version) (a .nodes) (k .fit) (k .sender ∙ from) w
 
   pub written-is-ack : AnswersIn (phaseOf (c .stand)) c t (headerOf b .source) (receiveOf c t b room)
   written-is-ack = go (plain-step c t Frame b room)

@@ -23,16 +23,17 @@ use Rattle.frame.specs.declared.Writing.the-variants.{Written, Refused as NotWr
 use Rattle.frame.specs.Frame.{fields, headerOf, lengthByte, readRules, reading, told as told-read}
 use Rattle.frame.proofs.Told.{WellRead, read-frame}
 use Rattle.board.specs.declared.Node.{Node}
+use Rattle.board.specs.Node.{isOld}
 use Rattle.board.specs.Table.{at, put}
 use Rattle.board.specs.Change.{heard, renewed, oweAll}
 use Rattle.board.proofs.Numbered.{put-numbered}
 use Rattle.setup.specs.Fitness.{FitTable}
-use Rattle.board.specs.Columns.{kindsOf, typed}
+use Rattle.board.specs.Columns.{kindsOf, versionsOf, typed}
 use Rattle.board.proofs.SameKinds.{SameKinds}
 use Rattle.setup.specs.declared.Setup.{Setup}
 use Rattle.setup.specs.Setup.{address}
-use Rattle.nodelist.specs.List.{sameList, sameTo}
-use Rattle.nodelist.proofs.Theorems.{same-to-top}
+use Rattle.nodelist.specs.List.{listOver, sameBytes, sameList}
+use Rattle.nodelist.proofs.Theorems.{columns-to-list}
 use Rattle.routing.specs.Route.{routeOf}
 use Rattle.routing.proofs.Theorems.{kinds-route}
 use Rattle.message.specs.Message.{signedHeader, signed, signedFrame, ackCode, Sends}
@@ -53,6 +54,7 @@ use Rattle.coordinator.specs.declared.Phase.the-variants.{Resting, Awaiting, Fo
 use Rattle.coordinator.specs.Phase.{phaseOf}
 use Rattle.coordinator.specs.Change.{withPhase, keeping}
 use Rattle.coordinator.specs.State.{headOf, keptAs, bare}
+use Rattle.coordinator.proofs.Fitting.{fits-forty}
 use Rattle.coordinator.proofs.Phases.{waited-board}
 use Rattle.look.specs.declared.Seen.{Seen}
 use Rattle.look.specs.Seen.{Saw}
@@ -62,7 +64,7 @@ use Rattle.steps.specs.declared.Answer.the-variants.{Refuse}
 use Rattle.steps.specs.After.{After, Shown, shows, leaving, refused, accepted, rests, transmits, told}
 use Rattle.steps.specs.Hear.{hear}
 use Rattle.steps.specs.Seek.{sourceIn}
-use Rattle.steps.specs.Receive.{payload, awaits, answersForward, isStray, heardIn, hearAck, keptOf, acking, routed, acked, takenAs, takenIn, receiveIn, receiveOf}
+use Rattle.steps.specs.Receive.{payload, awaits, answersForward, isStray, heardIn, hearAck, keptOf, acking, routed, acked, takenAs, takenIn, hearsOld, readIn, receiveIn, receiveOf}
 use Rattle.steps.proofs.Writes.{shownAs, leaves-ack-written}
 use Rattle.change.specs.declared.Edit.the-variants.{Nothing, Heard, Renewed}
 use Rattle.change.specs.declared.Move.{Move}
@@ -71,7 +73,7 @@ use Rattle.change.specs.declared.Change.{Change}
 use Rattle.change.specs.Change.{keptBytes, moved, changing, applied}
 use Rattle.change.proofs.Keeping.{keeps-whole}
 use Rattle.change.proofs.Making.{makes-edit, makes-owed, makes-refusal, made, Shows, shows-as}
-use Rattle.receive.specs.Parts.{Brings, hearing, isAcknowledged, waited, listened}
+use Rattle.receive.specs.Parts.{Brings, hearing, isAcknowledged, waited, listened, hearsFrom, readFrom}
 
 -- a refusal leaves the output as it was
 pub shows-refused : (b o : List ℕ) (c : Coordinator) (t : List Node) (q : Refusal) {a : After} {x : Change} → a ≡ refused c t q → x ≡ changing Stay 0 Nothing false (Refuse q) 0 0 0 → Shows a (applied x b c t) o o
@@ -110,13 +112,13 @@ pub keeps-brought : (c : Coordinator) (w : Phase) (b : List ℕ) (h : Header) (p
 keeps-brought c w b h p brought = λ i. withPhase (keeping c (keptAs (brought .0 i) (keptBytes (brought .1 i)))) w
 
 -- an ACK that is due: of its writing only 11 can be given, and its frame has 29 bytes
-module _ {seen : Seen} {c : Coordinator} {t : List Node} (s : Saw seen c t) (b : List ℕ) (board : ℕ) {index : ℕ} (i : index ≡ at t board .index) (answer : Answer) (after : Move) (before left : List ℕ) where
-  pub shows-acking : (w : Writing) → Sends (signedHeader (seen .setup) board index) (signed (seen .setup) ackCode) w before left → Shows (acking c t board (length before) (told answer) (moved after b c)) (applied (ackedAs w after board answer) b c t) before left
+module _ {seen : Seen} {c : Coordinator} {t : List Node} (s : Saw seen c t) (b : List ℕ) (board : ℕ) {version index : ℕ} (v : version ≡ at t board .version) (i : index ≡ at t board .index) (answer : Answer) (after : Move) (before left : List ℕ) where
+  pub shows-acking : (w : Writing) → Sends (signedHeader (seen .setup) board version index) (signed (seen .setup) ackCode) w before left → Shows (acking c t board (length before) (told answer) (moved after b c)) (applied (ackedAs w after board answer) b c t) before left
   unfolding choose
-  shows-acking w sends = leaves-ack-written (c .setup) t board c t frame refl (made (ackedAs w after board answer) b c t) before left w (rw (i, s .setup) at sends) (shown-as w)
+  shows-acking w sends = leaves-ack-written (c .setup) t board (at t board .version) c t frame refl (made (ackedAs w after board answer) b c t) before left w (rw (v, i, s .setup) at sends) (shown-as w)
     where
       frame : After
-      frame = accepted (moved after b c) (hear t board) (told answer) (signedFrame (c .setup) t board ackCode)
+      frame = accepted (moved after b c) (hear t board) (told answer) (signedFrame (c .setup) t board (at t board .version) ackCode)
 
       shown-as : (v : Writing) → applied (ackedAs v after board answer) b c t ≡ shownAs v c t frame
       shown-as (Written n) = refl
@@ -131,9 +133,9 @@ module _ {seen : Seen} {kinds : List ℕ} {c : Coordinator} {t : List Node} (s :
   route-seen : (sender method parameter : ℕ) → routeOf (typed kinds) (seen .setup .k) sender method parameter ≡ routeOf t (c .setup .k) sender method parameter
   route-seen sender method parameter = rw (s .setup) (kinds-route same (c .setup .k) sender method parameter)
 
-  -- whether a payload is the list
-  pub list-seen : (p : List ℕ) → sameTo (seen .top) (seen .setup .internal) (typed kinds) p ≡ sameList (c .setup .internal) t p
-  list-seen p = rw (s .setup, s .top) (same-to-top same (c .setup .internal) p)
+  -- whether a payload is the list for a board of a version
+  pub list-seen : {versions : List ℕ} {version own : ℕ} → versions ≡ versionsOf t → version ≡ own → (p : List ℕ) → sameBytes (listOver version (seen .top) (seen .setup .internal) kinds versions) p ≡ sameList own (c .setup .internal) t p
+  list-seen {own = own} e v p = ap (λ (l : List ℕ). sameBytes l p) (rw (s .setup, s .top, k, e, v) (columns-to-list own (c .setup .internal) t (fits-forty c t (s .fit))))
 
   -- a request that is routed: kept for its board, or discarded where there is none
   module _ (h : Header) (p : List ℕ) (board : ℕ) {to : ℕ} (e : to ≡ routeOf (typed kinds) (seen .setup .k) board (h .method) (h .parameter1)) where
@@ -234,26 +236,35 @@ module _ {seen : Seen} {c : Coordinator} {t : List Node} (s : Saw seen c t) (h :
 pub node-named : (c : Coordinator) (t : List Node) {w : Phase} {n : Node} {board requester : ℕ} {e : Exchange} {a : Bool} → w ≡ phaseOf (c .stand) → w ≡ Awaiting board e requester a → n ≡ at t (c .stand .board) → n ≡ at t board
 node-named c t h known e = e ∙ ap (at t) (sym (waited-board (c .stand) (sym h ∙ known)))
 
--- what was seen of the setup is the coordinator's, and so bytes are read in its subnet
-subnet-seen : {seen : Seen} {c : Coordinator} {t : List Node} → Saw seen c t → (b : List ℕ) → reading (seen .setup .subnet) b ≡ reading (c .setup .subnet) b
-subnet-seen s b = ap (λ (x : Setup). reading (x .subnet) b) (s .setup)
+-- what was seen of the phase, the record of the board that is waited for and what was discovered tell whether a 1.0 board may answer
+hears-seen : (c : Coordinator) (t : List Node) (n : Node) → n ≡ at t (c .stand .board) → (w : Phase) → phaseOf (c .stand) ≡ w → hearsFrom w n (c .found) ≡ hearsOld w c t
+hears-seen c t n e Resting h = refl
+hears-seen c t n e (Awaiting board x requester a) h = ap (λ (m : Node). isOld (m .version)) (node-named c t (sym h) refl e)
+hears-seen c t n e (ForwardDue board requester) h = refl
+hears-seen c t n e (ReturnDue board) h = refl
+hears-seen c t n e (Seeking position part) h = refl
+hears-seen c t n e Unknown h = refl
+
+-- and so in which subnet bytes are read
+pub read-seen : {seen : Seen} {c : Coordinator} {t : List Node} → Saw seen c t → {n : Node} → n ≡ at t (c .stand .board) → (b : List ℕ) → readFrom seen n b ≡ readIn (phaseOf (c .stand)) c t b
+read-seen {c = c} {t = t} s {n} e b = rw (s .setup, s .state, hears-seen c t n e (phaseOf (c .stand)) refl) refl
 
 -- bytes received, of a coordinator and records that are fit
-module _ {seen : Seen} {c : Coordinator} {t : List Node} (s : Saw seen c t) (b : List ℕ) (room : ℕ) {r : Reading} (e : told-read r ≡ reading (seen .setup .subnet) b) where
+module _ {seen : Seen} {c : Coordinator} {t : List Node} (s : Saw seen c t) (b : List ℕ) (room : ℕ) {r : Reading} (e : told-read r ≡ reading (readIn (phaseOf (c .stand)) c t b) b) where
   -- the reader's refusals come first
   pub received-unread : {q : Refusal} → r ≡ NotRead q → receiveOf c t b room ≡ refused c t q
   unfolding receiveIn reading
-  received-unread {q} n = sym (choose-no _ _ _ _ (not-no _ (s .fit)) (sym (refused-for (readRules (c .setup .subnet) b) (fields (headerOf b) ++ lengthByte b ∷ []) (refused c t) _ q (sym (e ∙ subnet-seen s b) ∙ ap told-read n))))
+  received-unread {q} n = sym (choose-no _ _ _ _ (not-no _ (s .fit)) (sym (refused-for (readRules (readIn (phaseOf (c .stand)) c t b) b) (fields (headerOf b) ++ lengthByte b ∷ []) (refused c t) _ q (sym e ∙ ap told-read n))))
 
   -- then what a good frame gets
   pub received-read : {g : Header} {n : ℕ} → r ≡ Frame g n → receiveOf c t b room ≡ listened (phaseOf (c .stand)) c t g (payload b) room
   unfolding receiveIn reading listened waited
   received-read {g} {n} w =
-      sym (choose-no _ _ _ _ (not-no _ (s .fit)) (sym (passed (readRules (c .setup .subnet) b) (refused c t) _ ok)))
-      ∙ ap (λ (x : Header). listened (phaseOf (c .stand)) c t x (payload b) room) (sym (read-frame (c .setup .subnet) b w (e ∙ subnet-seen s b) .header))
+      sym (choose-no _ _ _ _ (not-no _ (s .fit)) (sym (passed (readRules (readIn (phaseOf (c .stand)) c t b) b) (refused c t) _ ok)))
+      ∙ ap (λ (x : Header). listened (phaseOf (c .stand)) c t x (payload b) room) (sym (read-frame (readIn (phaseOf (c .stand)) c t b) b w e .header))
     where
-      ok : Passed (readRules (c .setup .subnet) b)
-      ok = gave (readRules (c .setup .subnet) b) (fields (headerOf b) ++ lengthByte b ∷ []) (fields g ++ n ∷ []) (sym (e ∙ subnet-seen s b) ∙ ap told-read w) .0
+      ok : Passed (readRules (readIn (phaseOf (c .stand)) c t b) b)
+      ok = gave (readRules (readIn (phaseOf (c .stand)) c t b) b) (fields (headerOf b) ++ lengthByte b ∷ []) (fields g ++ n ∷ []) (sym e ∙ ap told-read w) .0
 
 -- bytes that read well
 module _ {ours : ℕ} {b : List ℕ} {g : Header} {n : ℕ} (read : WellRead ours b g n) where

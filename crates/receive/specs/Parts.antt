@@ -1,7 +1,7 @@
 -- The parts of the step: what its functions leave.
 use Prim.Native.Nat.{ℕ}
 use mathlib.Core.Path.{_≡_}
-use mathlib.Core.Bool.{Bool, true, false, not}
+use mathlib.Core.Bool.{Bool, true, false, _&&_, not}
 use mathlib.Core.List.{List, [], _∷_}
 use lib.Dec.{eqb}
 use lib.ListN.{length}
@@ -9,21 +9,27 @@ use Rattle.ground.specs.Choose.{choose}
 use Rattle.refusal.specs.Refusal.{ruled}
 use Rattle.refusal.specs.declared.Refusal.the-variants.{NotForUs, NotDiscovering, NotAwaited}
 use Rattle.frame.specs.declared.Header.{Header}
+use Rattle.frame.specs.Frame.{headerOf}
 use Rattle.board.specs.declared.Node.{Node}
+use Rattle.board.specs.Node.{isOld}
 use Rattle.board.specs.Table.{at}
-use Rattle.board.specs.Columns.{kindsOf}
+use Rattle.board.specs.Columns.{kindsOf, versionsOf}
 use Rattle.accept.specs.declared.Heard.{Heard}
 use Rattle.accept.specs.declared.Heard.the-variants.{Ack, Echo, Deliver, Route, Answer as Response, Refused}
+use Rattle.setup.specs.Setup.{oldSubnet}
 use Rattle.setup.specs.Fitness.{FitTable}
 use Rattle.coordinator.specs.declared.Coordinator.{Coordinator}
 use Rattle.coordinator.specs.declared.Exchange.{Exchange}
+use Rattle.coordinator.specs.declared.Found.{Found}
 use Rattle.coordinator.specs.declared.Phase.{Phase}
+use Rattle.coordinator.specs.declared.Phase.the-variants.{Resting, Awaiting, ForwardDue, ReturnDue, Seeking, Unknown}
+use Rattle.coordinator.specs.Phase.{phaseOf}
 use Rattle.coordinator.specs.State.{headOf}
 use Rattle.look.specs.declared.Seen.{Seen}
 use Rattle.look.specs.Seen.{Saw, OfTypes}
 use Rattle.steps.specs.declared.Answer.{Answer}
 use Rattle.steps.specs.After.{After, refused, told, shows}
-use Rattle.steps.specs.Receive.{awaits, isStray, heardIn, hearAck, keptOf, acking, acked, takenAs, takenIn}
+use Rattle.steps.specs.Receive.{awaits, isStray, heardIn, hearAck, keptOf, acking, acked, takenAs, takenIn, seeksOld}
 use Rattle.change.specs.declared.Edit.the-variants.{Heard as ToHear, Renewed}
 use Rattle.change.specs.declared.Move.{Move}
 use Rattle.change.specs.declared.Change.{Change}
@@ -49,15 +55,15 @@ abbrev pub Acknowledges : Node → Exchange → ℕ → ℕ → ℕ → Change �
 Acknowledges n exchange board requester session x =
     (b : List ℕ) (c : Coordinator) (t : List Node) → FitTable (c .setup .k) t → n ≡ at t board → applied x b c t ≡ shows (acked exchange board requester c (hearAck t board session))
 
--- the change of an ACK that is due to a board with this index, whatever was received: the coordinator then moves (01, "Frame")
-abbrev pub Acks : Seen → ℕ → ℕ → Answer → Move → Change → List ℕ → List ℕ → Type 0
-Acks seen board index answer after x before left =
-    (b : List ℕ) → Takes seen (λ c t. index ≡ at t board .index) b (λ c t. acking c t board (length before) (told answer) (moved after b c)) x before left
+-- the change of an ACK that is due to a board with this version and index, whatever was received: the coordinator then moves (01, "Frame")
+abbrev pub Acks : Seen → ℕ → ℕ → ℕ → Answer → Move → Change → List ℕ → List ℕ → Type 0
+Acks seen board version index answer after x before left =
+    (b : List ℕ) → Takes seen (λ c t. (version ≡ at t board .version) × (index ≡ at t board .index)) b (λ c t. acking c t board (length before) (told answer) (moved after b c)) x before left
 
 -- what a frame is to a wait for a board of which this is the record
-abbrev pub Hears : Seen → List ℕ → Node → Exchange → Bool → Header → List ℕ → Heard → Type 0
-Hears seen kinds n exchange acked h p r =
-    (c : Coordinator) (t : List Node) (board : ℕ) → Saw seen c t → kinds ≡ kindsOf t → n ≡ at t board → r ≡ heardIn exchange board acked c t h p
+abbrev pub Hears : Seen → List ℕ → List ℕ → Node → Exchange → Bool → Header → List ℕ → Heard → Type 0
+Hears seen kinds versions n exchange acked h p r =
+    (c : Coordinator) (t : List Node) (board : ℕ) → Saw seen c t → kinds ≡ kindsOf t → versions ≡ versionsOf t → n ≡ at t board → r ≡ heardIn exchange board acked c t h p
 
 -- an ACK is due to the sender of a request or a response, 0x94 too (01, "Frame")
 abbrev pub isAcknowledged : Heard → Bool
@@ -83,3 +89,16 @@ unfoldable pub listened : Phase → Coordinator → List Node → Header → Lis
 listened phase c t h p room =
     ruled ((not (eqb (h .destination) 255), NotForUs) ∷ (isStray phase (c .kept) (h .message), NotDiscovering) ∷ []) (refused c t)
     (waited phase c t h p room)
+
+-- a 1.0 board may answer, by the record of the board that the stand names and by what was discovered (02, C-15)
+abbrev pub hearsFrom : Phase → Node → Found → Bool
+hearsFrom Resting n f = false
+hearsFrom (Awaiting board exchange requester acked) n f = isOld (n .version)
+hearsFrom (ForwardDue board requester) n f = false
+hearsFrom (ReturnDue board) n f = false
+hearsFrom (Seeking position part) n f = seeksOld part f
+hearsFrom Unknown n f = false
+
+-- the subnet in which bytes are read, by what was seen and that record (02, C-15)
+abbrev pub readFrom : Seen → Node → List ℕ → ℕ
+readFrom s n b = choose (hearsFrom (phaseOf (s .state .stand)) n (s .state .found) && eqb (headerOf b .subnet) oldSubnet) oldSubnet (s .setup .subnet)

@@ -5,6 +5,7 @@ use change::Change;
 use change::Edit;
 use change::Move;
 use coordinator::Exchange;
+use coordinator::Found;
 use coordinator::Head;
 use coordinator::Part;
 use coordinator::Phase;
@@ -19,14 +20,14 @@ ghost use mathlib.Core.Path.{_≡_};
 ghost use mathlib.Core.Bool.{true};
 ghost use lib.ListN.{length};
 ghost use Rattle.board.specs.Table.{at};
-ghost use Rattle.board.specs.Columns.{kindsOf};
+ghost use Rattle.board.specs.Columns.{kindsOf, versionsOf};
 ghost use Rattle.coordinator.specs.Phase.{phaseOf};
 ghost use Rattle.coordinator.specs.State.{bare};
-ghost use Rattle.look.specs.Seen.{OfMacs};
-ghost use Rattle.steps.specs.Receive.{isSeeking, answersForward, isStray, takenAs, receiveOf};
+ghost use Rattle.look.specs.Seen.{OfBoards};
+ghost use Rattle.steps.specs.Receive.{isSeeking, answersForward, isStray, takenAs, seeksOld, receiveOf};
 ghost use Rattle.steps.specs.Seek.{sourceIn};
 ghost use Rattle.change.specs.Decides.{Takes, Decides};
-ghost use Rattle.receive.specs.Parts.{hearing, Acknowledges, Acks, Hears, isAcknowledged, Follows, TakesFrame, waited, listened};
+ghost use Rattle.receive.specs.Parts.{hearing, Acknowledges, Acks, Hears, isAcknowledged, Follows, TakesFrame, waited, listened, hearsFrom, readFrom};
 
 // A board's ACK is heard. Another session than the one on record replaces it, and all are owed the list.
 fn hearing(moves: Move, board: usize, node: Node, session: u64, answer: Answer) -> Change
@@ -65,18 +66,19 @@ fn acknowledged(
     }
 }
 
-// Writes the ACK due to the sender, who has this index; where there is room for it the board is heard, and the coordinator moves.
+// Writes the ACK due to the sender, who has this version and index; where there is room for it the board is heard, and the coordinator moves.
 fn acking(
     seen: Seen,
     board: usize,
+    version: u8,
     index: u8,
     answer: Answer,
     after: Move,
     out: &mut [u8],
 ) -> Change
-    ensures { λ r. ⌜ Acks seen board index answer after r (now (out .entry)) (now (out .exit)) ⌝ }
+    ensures { λ r. ⌜ Acks seen board version index answer after r (now (out .entry)) (now (out .exit)) ⌝ }
 {
-    match message::write_signed(seen.setup, board, index, 6, out) {
+    match message::write_signed(seen.setup, board, version, index, 6, out) {
         Writing::Written(n) => change::changing(after, board, Edit::Heard, answer, n),
         Writing::Refused(refusal) => change::refusing(refusal),
     }
@@ -87,12 +89,13 @@ fn heard_in(
     seen: Seen,
     node: Node,
     kinds: &[u8; 40],
+    versions: &[u8; 40],
     exchange: Exchange,
     acked: bool,
     header: Header,
     payload: &[u8],
 ) -> Heard
-    ensures { λ r. ⌜ Hears seen (now (kinds .entry)) node exchange acked header (now (payload .entry)) r ⌝ }
+    ensures { λ r. ⌜ Hears seen (now (kinds .entry)) (now (versions .entry)) node exchange acked header (now (payload .entry)) r ⌝ }
 {
     let ack = accept::is_ack(payload, node.mac);
     let message = header.message;
@@ -100,10 +103,9 @@ fn heard_in(
         Exchange::Offer => accept::after_offer(message, header.method, ack),
         Exchange::List => {
             let internal = seen.setup.internal;
-            accept::after_list(
-                message,
-                nodelist::same_list(internal, kinds, seen.top, payload),
-            )
+            let top = seen.top;
+            let same = nodelist::same_list(node.version, internal, kinds, versions, top, payload);
+            accept::after_list(message, same)
         }
         Exchange::Forward => accept::after_forward(message, seen.state.head.message, ack, acked),
         Exchange::Return => accept::after_return(message, ack),
@@ -176,7 +178,7 @@ fn taken(
         _ => {
             let next = following(heard, seen, kinds, board, requester, header);
             let Next { answer, moves } = next;
-            acking(seen, board, node.index, answer, moves, out)
+            acking(seen, board, node.version, node.index, answer, moves, out)
         }
     }
 }
@@ -186,6 +188,7 @@ fn awaited(
     seen: Seen,
     node: Node,
     kinds: &[u8; 40],
+    versions: &[u8; 40],
     exchange: Exchange,
     board: usize,
     requester: usize,
@@ -194,12 +197,21 @@ fn awaited(
     payload: &[u8],
     out: &mut [u8],
 ) -> Change
-    ensures { λ r. ⌜ TakesFrame seen (λ c t. (now (kinds .entry) ≡ kindsOf t) × (node ≡ at t board)) header (now (payload .entry)) (λ c t. waited (Phase.Awaiting board exchange requester acked) c t header (now (payload .entry)) (length (now (out .entry)))) r (now (out .entry)) (now (out .exit)) ⌝ }
+    ensures { λ r. ⌜ TakesFrame seen (λ c t. (now (kinds .entry) ≡ kindsOf t) × (now (versions .entry) ≡ versionsOf t) × (node ≡ at t board)) header (now (payload .entry)) (λ c t. waited (Phase.Awaiting board exchange requester acked) c t header (now (payload .entry)) (length (now (out .entry)))) r (now (out .entry)) (now (out .exit)) ⌝ }
 {
     if header.source != setup::address_at(seen.setup, board) {
         return change::refusing(Refusal::NotAwaited);
     }
-    let heard = heard_in(seen, node, kinds, exchange, acked, header, payload);
+    let heard = heard_in(
+        seen,
+        node,
+        kinds,
+        versions,
+        exchange,
+        acked,
+        header,
+        payload,
+    );
     taken(
         seen,
         node,
@@ -231,18 +243,29 @@ fn sought(
     position: usize,
     seen: Seen,
     kinds: &[u8; 40],
+    versions: &[u8; 40],
     macs: &[u64; 40],
     header: Header,
     payload: &[u8],
     out: &mut [u8],
 ) -> Change
-    ensures { λ r. ⌜ Decides seen (OfMacs (now (kinds .entry)) (now (macs .entry))) (λ c t. waited (Phase.Seeking position part) c t header (now (payload .entry)) (length (now (out .entry)))) r (now (out .entry)) (now (out .exit)) ⌝ }
+    ensures { λ r. ⌜ Decides seen (OfBoards (now (kinds .entry)) (now (versions .entry)) (now (macs .entry))) (λ c t. waited (Phase.Seeking position part) c t header (now (payload .entry)) (length (now (out .entry)))) r (now (out .entry)) (now (out .exit)) ⌝ }
 {
     let source = source_in(part, seen.setup, position);
     if !(steps::is_waiting(part) & (header.source == source)) {
         return change::refusing(Refusal::NotAwaited);
     }
-    seek::sought(part, position, seen, kinds, macs, header, payload, out)
+    seek::sought(
+        part,
+        position,
+        seen,
+        kinds,
+        versions,
+        macs,
+        header,
+        payload,
+        out,
+    )
 }
 
 // Whether an exchange by which a board joins runs.
@@ -315,13 +338,14 @@ fn waited(
     seen: Seen,
     node: Node,
     kinds: &[u8; 40],
+    versions: &[u8; 40],
     macs: &[u64; 40],
     phase: Phase,
     header: Header,
     payload: &[u8],
     out: &mut [u8],
 ) -> Change
-    ensures { λ r. ⌜ TakesFrame seen (λ c t. OfMacs (now (kinds .entry)) (now (macs .entry)) c t × ((node ≡ at t (c .stand .board)) × (phase ≡ phaseOf (c .stand)))) header (now (payload .entry)) (λ c t. waited phase c t header (now (payload .entry)) (length (now (out .entry)))) r (now (out .entry)) (now (out .exit)) ⌝ }
+    ensures { λ r. ⌜ TakesFrame seen (λ c t. OfBoards (now (kinds .entry)) (now (versions .entry)) (now (macs .entry)) c t × ((node ≡ at t (c .stand .board)) × (phase ≡ phaseOf (c .stand)))) header (now (payload .entry)) (λ c t. waited phase c t header (now (payload .entry)) (length (now (out .entry)))) r (now (out .entry)) (now (out .exit)) ⌝ }
 {
     match phase {
         Phase::Awaiting {
@@ -333,6 +357,7 @@ fn waited(
             seen,
             node,
             kinds,
+            versions,
             exchange,
             board,
             requester,
@@ -342,7 +367,7 @@ fn waited(
             out,
         ),
         Phase::Seeking { position: at, part } => {
-            sought(part, at, seen, kinds, macs, header, payload, out)
+            sought(part, at, seen, kinds, versions, macs, header, payload, out)
         }
         _ => change::refusing(Refusal::NotAwaited),
     }
@@ -353,12 +378,13 @@ fn listened(
     seen: Seen,
     node: Node,
     kinds: &[u8; 40],
+    versions: &[u8; 40],
     macs: &[u64; 40],
     header: Header,
     payload: &[u8],
     out: &mut [u8],
 ) -> Change
-    ensures { λ r. ⌜ TakesFrame seen (λ c t. OfMacs (now (kinds .entry)) (now (macs .entry)) c t × (node ≡ at t (c .stand .board))) header (now (payload .entry)) (λ c t. listened (phaseOf (c .stand)) c t header (now (payload .entry)) (length (now (out .entry)))) r (now (out .entry)) (now (out .exit)) ⌝ }
+    ensures { λ r. ⌜ TakesFrame seen (λ c t. OfBoards (now (kinds .entry)) (now (versions .entry)) (now (macs .entry)) c t × (node ≡ at t (c .stand .board))) header (now (payload .entry)) (λ c t. listened (phaseOf (c .stand)) c t header (now (payload .entry)) (length (now (out .entry)))) r (now (out .entry)) (now (out .exit)) ⌝ }
 {
     if header.destination != 255 {
         return change::refusing(Refusal::NotForUs);
@@ -367,7 +393,63 @@ fn listened(
     if is_stray(phase, seen.state.head, header.message) {
         return change::refusing(Refusal::NotDiscovering);
     }
-    waited(seen, node, kinds, macs, phase, header, payload, out)
+    waited(
+        seen,
+        node,
+        kinds,
+        versions,
+        macs,
+        phase,
+        header,
+        payload,
+        out,
+    )
+}
+
+// Whether a 1.0 board may answer in a part of the exchange by which a board joins: anyone in search, else what was
+// discovered.
+fn seeks_old(part: Part, found: Found) -> bool
+    ensures { λ r. ⌜ r ≡ seeksOld part found ⌝ }
+{
+    match part {
+        Part::Search => true,
+        _ => found.version == 1,
+    }
+}
+
+// Whether a 1.0 board may answer in a phase. The node is the record of the board that the stand names.
+fn hears_old(phase: Phase, node: Node, found: Found) -> bool
+    ensures { λ r. ⌜ r ≡ hearsFrom phase node found ⌝ }
+{
+    match phase {
+        Phase::Awaiting {
+            board: _,
+            exchange: _,
+            requester: _,
+            acked: _,
+        } => node.version == 1,
+        Phase::Seeking { position: _, part } => seeks_old(part, found),
+        _ => false,
+    }
+}
+
+// The subnet in which bytes are read: a 1.0 board's where they carry it and one may answer, else ours. The node is the
+// record of the board that the stand names.
+fn read_in(seen: Seen, node: Node, received: &[u8]) -> u8
+    ensures { λ r. ⌜ r ≡ readFrom seen node (now (received .entry)) ⌝ }
+{
+    let ours = seen.setup.subnet;
+    if received.len() < 3 {
+        return ours;
+    }
+    if received[2] != 2 {
+        return ours;
+    }
+    let phase = coordinator::phase_of(seen.state.stand);
+    if hears_old(phase, node, seen.state.found) {
+        return 2;
+    }
+    ours
 }
 
 // The step of bytes received, of a coordinator and records that are fit. The node is the record of the board that the
@@ -376,16 +458,26 @@ pub fn receive(
     seen: Seen,
     node: Node,
     kinds: &[u8; 40],
+    versions: &[u8; 40],
     macs: &[u64; 40],
     received: &[u8],
     out: &mut [u8],
 ) -> Change
-    ensures { λ r. ⌜ Takes seen (λ c t. OfMacs (now (kinds .entry)) (now (macs .entry)) c t × (node ≡ at t (c .stand .board))) (now (received .entry)) (λ c t. receiveOf c t (now (received .entry)) (length (now (out .entry)))) r (now (out .entry)) (now (out .exit)) ⌝ }
+    ensures { λ r. ⌜ Takes seen (λ c t. OfBoards (now (kinds .entry)) (now (versions .entry)) (now (macs .entry)) c t × (node ≡ at t (c .stand .board))) (now (received .entry)) (λ c t. receiveOf c t (now (received .entry)) (length (now (out .entry)))) r (now (out .entry)) (now (out .exit)) ⌝ }
 {
-    match frame::read(seen.setup.subnet, received) {
+    match frame::read(read_in(seen, node, received), received) {
         Reading::Frame(header, n) => {
             let end = 10 + n;
-            listened(seen, node, kinds, macs, header, &received[10..end], out)
+            listened(
+                seen,
+                node,
+                kinds,
+                versions,
+                macs,
+                header,
+                &received[10..end],
+                out,
+            )
         }
         Reading::Refused(refusal) => change::refusing(refusal),
     }

@@ -9,12 +9,12 @@ use borrow.Author.Tests.{ltb-true, ltb-false}
 use native.Mathlib.Omega.{arith}
 use Rattle.refusal.specs.Refusal.{numberOf, refuses, gives, Told}
 use Rattle.refusal.specs.declared.Refusal.{Refusal}
-use Rattle.refusal.specs.declared.Refusal.the-variants.{Short, OverLong, LengthMismatch, BadChecksum, NotForUs, NotAwaited, UnexpectedType, BadEcho, BadMethod, PayloadTooLong, NoRoom, BadType, BadMac, Busy, Held, Full, AwaitingReply, NobodyListed, NotWaiting, BadPool, StateUnfit, NotDiscovering, OtherSubnet, BadLength, NoSlot, BadInner, TooDeep, BadTextLength, BadText}
+use Rattle.refusal.specs.declared.Refusal.the-variants.{Short, OverLong, LengthMismatch, BadChecksum, NotForUs, NotAwaited, UnexpectedType, BadEcho, BadMethod, PayloadTooLong, NoRoom, BadType, BadMac, Busy, Held, Full, AwaitingReply, NobodyListed, NotWaiting, BadPool, StateUnfit, NotDiscovering, OtherSubnet, TooManyTypes, BadLength, NoSlot, BadInner, TooDeep, BadTextLength, BadText}
 
--- the refusals in the order of their numbers; at 17, 25, 28 and 29, which are none's, stands the first again
+-- the refusals in the order of their numbers; at 17, 28 and 29, which are none's, stands the first again
 listed : List Refusal
 listed =
-    Short ∷ OverLong ∷ LengthMismatch ∷ BadChecksum ∷ NotForUs ∷ NotAwaited ∷ UnexpectedType ∷ BadEcho ∷ BadMethod ∷ PayloadTooLong ∷ NoRoom ∷ BadType ∷ BadMac ∷ Busy ∷ Held ∷ Full ∷ Short ∷ AwaitingReply ∷ NobodyListed ∷ NotWaiting ∷ BadPool ∷ StateUnfit ∷ NotDiscovering ∷ OtherSubnet ∷ Short ∷ BadLength ∷ NoSlot ∷ Short ∷ Short ∷ BadInner ∷ TooDeep ∷ BadTextLength ∷ BadText ∷ []
+    Short ∷ OverLong ∷ LengthMismatch ∷ BadChecksum ∷ NotForUs ∷ NotAwaited ∷ UnexpectedType ∷ BadEcho ∷ BadMethod ∷ PayloadTooLong ∷ NoRoom ∷ BadType ∷ BadMac ∷ Busy ∷ Held ∷ Full ∷ Short ∷ AwaitingReply ∷ NobodyListed ∷ NotWaiting ∷ BadPool ∷ StateUnfit ∷ NotDiscovering ∷ OtherSubnet ∷ TooManyTypes ∷ BadLength ∷ NoSlot ∷ Short ∷ Short ∷ BadInner ∷ TooDeep ∷ BadTextLength ∷ BadText ∷ []
 
 -- the refusal that a number names; a number that is none's names the first
 pub refusalOf : ℕ → Refusal
@@ -46,6 +46,7 @@ placed BadPool = refl
 placed StateUnfit = refl
 placed NotDiscovering = refl
 placed OtherSubnet = refl
+placed TooManyTypes = refl
 placed BadLength = refl
 placed NoSlot = refl
 placed BadInner = refl

@@ -5,9 +5,9 @@ use mathlib.Core.List.{List, [], _∷_}
 use lib.ListN.{getD}
 use Rattle.ground.specs.Choose.{choose}
 use Rattle.refusal.specs.declared.Refusal.{Refusal}
-use Rattle.refusal.specs.declared.Refusal.the-variants.{Short, OverLong, LengthMismatch, BadChecksum, NotForUs, NotAwaited, UnexpectedType, BadEcho, BadMethod, PayloadTooLong, NoRoom, BadType, BadMac, Busy, Held, Full, AwaitingReply, NobodyListed, NotWaiting, BadPool, StateUnfit, NotDiscovering, OtherSubnet, BadLength, NoSlot, BadInner, TooDeep, BadTextLength, BadText}
+use Rattle.refusal.specs.declared.Refusal.the-variants.{Short, OverLong, LengthMismatch, BadChecksum, NotForUs, NotAwaited, UnexpectedType, BadEcho, BadMethod, PayloadTooLong, NoRoom, BadType, BadMac, Busy, Held, Full, AwaitingReply, NobodyListed, NotWaiting, BadPool, StateUnfit, NotDiscovering, OtherSubnet, TooManyTypes, BadLength, NoSlot, BadInner, TooDeep, BadTextLength, BadText}
 
--- the rule book's number of each refusal (01, "Numbers"; 02, C-11, C-14, C-16, C-21 and C-22). 17 is retired and is given to nothing else (02, C-23)
+-- the rule book's number of each refusal (01, "Numbers"; 02, C-11, C-14, C-15, C-16, C-21 and C-22). 17 is retired and is given to nothing else (02, C-23)
 abbrev pub numberOf : Refusal → ℕ
 numberOf Short = 1
 numberOf OverLong = 2
@@ -32,6 +32,7 @@ numberOf BadPool = 21
 numberOf StateUnfit = 22
 numberOf NotDiscovering = 23
 numberOf OtherSubnet = 24
+numberOf TooManyTypes = 25
 numberOf BadLength = 26
 numberOf NoSlot = 27
 numberOf BadInner = 30

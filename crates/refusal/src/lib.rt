@@ -1,4 +1,4 @@
-// The numbers by which the panel refuses. A refusal is a case; the rule book's number is `number`. 17 is retired, and 25, 28 and 29 are none's yet.
+// The numbers by which the panel refuses. A refusal is a case; the rule book's number is `number`. 17 is retired, and 28 and 29 are none's yet.
 ghost use mathlib.Core.Path.{_≡_};
 ghost use Rattle.refusal.specs.Refusal.{numberOf};
 
@@ -47,8 +47,10 @@ pub enum Refusal {
     StateUnfit,
     // 23: a response of types 0xF9 to 0xFB while no exchange by which a board joins runs
     NotDiscovering,
-    // 24: a good frame whose subnet is neither ours nor 0
+    // 24: a good frame whose subnet is not taken
     OtherSubnet,
+    // 25: join that would leave a 1.0 board listed with more than 15 types
+    TooManyTypes,
     // 26: a record of shared data under 6 bytes or over 200
     BadLength,
     // 27: a record of a new sector, every slot in use
@@ -91,6 +93,7 @@ pub fn number(refusal: Refusal) -> u8
         Refusal::StateUnfit => 22,
         Refusal::NotDiscovering => 23,
         Refusal::OtherSubnet => 24,
+        Refusal::TooManyTypes => 25,
         Refusal::BadLength => 26,
         Refusal::NoSlot => 27,
         Refusal::BadInner => 30,

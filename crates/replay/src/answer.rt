@@ -125,7 +125,7 @@ fn write_field(n: u64) {
     write(b" ");
 }
 
-// POSITION ADDRESS TYPE MAC SESSION MISSES OWED INDEX, of a board that is listed
+// POSITION ADDRESS TYPE MAC SESSION MISSES OWED INDEX VERSION, of a board that is listed
 fn record(position: usize, address: u8, node: Node) {
     if node.kind != 0 {
         write_field(position as u64);
@@ -135,7 +135,8 @@ fn record(position: usize, address: u8, node: Node) {
         write_field(node.session);
         write_field(node.misses as u64);
         write_field(node.owed as u64);
-        write_number(b"", node.index as u64);
+        write_field(node.index as u64);
+        write_number(b"", node.version as u64);
     }
 }
 

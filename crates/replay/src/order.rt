@@ -99,16 +99,18 @@ fn read_setup(line: &[u8], bytes: &mut [u8]) -> Order {
     }
 }
 
-// join TYPE MAC SESSION
+// join TYPE MAC SESSION VERSION
 fn read_join(line: &[u8]) -> Order {
     let kind = script::field_at(line, 5, 255);
     let mac = script::field_at(line, kind.next, script::ANY);
     let session = script::field_at(line, mac.next, script::ANY);
-    if kind.ok & mac.ok & session.ok & (line.len() < session.next) {
+    let version = script::field_at(line, session.next, 255);
+    if kind.ok & mac.ok & session.ok & version.ok & (line.len() < version.next) {
         let event = Event::Join {
             kind: script::byte(kind.value),
             mac: mac.value,
             session: session.value,
+            version: script::byte(version.value),
         };
         Order::Step {
             event: event,

@@ -24,7 +24,7 @@ use Rattle.steps.specs.declared.Stepped.{Stepped}
 use Rattle.steps.specs.After.{shown, shows, resting, Leaves}
 use Rattle.steps.specs.Hear.{hearMac}
 use Rattle.steps.specs.Seek.{joinFound, answered, outcome, settled, repliedAs, quietInSeek}
-use Rattle.seek.specs.Parts.{macPlace, foundAt, teller}
+use Rattle.seek.specs.Parts.{macPlace, versionIn, foundAt, teller}
 
 module _ (c : Coordinator) (t : List Node) (f : Found) {n : ℕ} (e : n ≡ joinFound c t f .joined) where
   -- the discovery was answered: by one who could join, or by one who could not
@@ -52,12 +52,12 @@ leaves-answered r o c t f h = (h, ap (λ (b : List ℕ). laid b o) (sym (silent 
     silent false = refl
 
 -- the replies that end the exchange: the other arm of a match on the reply
-pub settles : (x : Reply) (position : ℕ) (c : Coordinator) (t : List Node) (p : List ℕ) (room : ℕ) → OneOf (2 ∷ 3 ∷ []) (tagOf reply.the-type x) → repliedAs x position c t p room ≡ settled c t position (teller x (c .found) (foundAt p (macPlace x))) room
-settles Discovered position c t p room k = absurd (miss (2 ∷ 3 ∷ []) 0 tt k)
-settles Present position c t p room k = absurd (miss (2 ∷ 3 ∷ []) 1 tt k)
-settles Identified position c t p room k = refl
-settles Assigned position c t p room k = refl
-settles (Refused r) position c t p room k = absurd (miss (2 ∷ 3 ∷ []) 4 tt k)
+pub settles : (x : Reply) (position : ℕ) (c : Coordinator) (t : List Node) (packet : ℕ) (p : List ℕ) (room : ℕ) → OneOf (2 ∷ 3 ∷ []) (tagOf reply.the-type x) → repliedAs x position c t packet p room ≡ settled c t position (teller x (c .found) (foundAt p (macPlace x) (versionIn x packet (c .found)))) room
+settles Discovered position c t packet p room k = absurd (miss (2 ∷ 3 ∷ []) 0 tt k)
+settles Present position c t packet p room k = absurd (miss (2 ∷ 3 ∷ []) 1 tt k)
+settles Identified position c t packet p room k = refl
+settles Assigned position c t packet p room k = refl
+settles (Refused r) position c t packet p room k = absurd (miss (2 ∷ 3 ∷ []) 4 tt k)
 
 -- the parts in which a quiet breaks the exchange off: the other arm of a match on the part
 pub breaks-off : (x : Part) (position : ℕ) (c : Coordinator) (t : List Node) → OneOf (0 ∷ 3 ∷ 5 ∷ []) (tagOf parts.the-type x) → quietInSeek x position c t ≡ resting (ended c) t 0 0

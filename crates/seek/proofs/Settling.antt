@@ -1,14 +1,11 @@
 -- What the ACK to a response leaves that ends the exchange, by what its writing gave.
-use Prim.Native.Nat.{ℕ, zero, suc, _-_}
-use native.Mathlib.Omega.{arith}
+use Prim.Native.Nat.{ℕ, _-_}
 use mathlib.Core.Path.{_≡_, refl, sym, ap, _∙_}
 use mathlib.Core.Bool.{Bool, true, false, _&&_}
-use mathlib.Core.List.{List, [], _∷_}
+use mathlib.Core.List.{List}
 use lib.Dec.{eqb, leb, ltb}
 use lib.ListN.{length, set, length-set, length-map}
-use borrow.Author.Tests.{eqb-false, lt-ltb, le-leb}
 use Rattle.ground.specs.Choose.{choose}
-use Rattle.ground.proofs.Choices.{choose-yes, both}
 use Rattle.refusal.specs.declared.Refusal.{Refusal}
 use Rattle.refusal.proofs.Rules.{Passed, each, by-rules}
 use Rattle.frame.specs.declared.Writing.{Writing}
@@ -19,13 +16,12 @@ use Rattle.board.specs.Table.{at}
 use Rattle.board.specs.Wanted.{wantedAt, indexOf}
 use Rattle.board.specs.Index.{Numbered}
 use Rattle.board.specs.Change.{joinedNode, heard}
-use Rattle.board.specs.Columns.{kindOf, kindsOf, typed}
-use Rattle.board.proofs.Positions.{put-position}
+use Rattle.board.specs.Columns.{kindOf, kindsOf, typed, columnWith}
 use Rattle.board.proofs.SameKinds.{kinds-index}
-use Rattle.board.proofs.Columns.{typed-kinds, same-kinds}
+use Rattle.board.proofs.Columns.{typed-kinds, same-kinds, column-put}
 use Rattle.board.proofs.Changes.{put-length, put-alike}
 use Rattle.board.proofs.Numbered.{put-numbered, relisted-kinds, relisted-length, relisted-stored}
-use Rattle.setup.specs.Fitness.{Position, FitTable}
+use Rattle.setup.specs.Fitness.{FitTable}
 use Rattle.message.specs.Message.{signedHeader, signed, ackCode, Sends}
 use Rattle.coordinator.specs.declared.Coordinator.{Coordinator}
 use Rattle.coordinator.specs.declared.Found.{Found}
@@ -38,20 +34,12 @@ use Rattle.look.specs.Seen.{Saw}
 use Rattle.steps.specs.declared.Answer.the-variants.{Transmit}
 use Rattle.steps.specs.After.{After, Shown, shows, leaving, refused, resting, transmits, Leaves}
 use Rattle.steps.specs.Hear.{hear, hearMac}
-use Rattle.steps.specs.Join.{chosen, joinRules, joinedAs, joinOf}
+use Rattle.steps.specs.Join.{joinRules, joinedAs, joinOf}
 use Rattle.steps.specs.Seek.{joinFound, outcome, acknowledged, settled}
-use Rattle.steps.proofs.Chosen.{chosen-within}
 use Rattle.steps.proofs.Writes.{shownAs, leaves-ack-written}
 use Rattle.change.proofs.Making.{made}
 use Rattle.change.specs.declared.Change.{Change}
 use Rattle.change.specs.Change.{applied}
-use Rattle.seek.specs.Parts.{retyped}
-
--- the types once a record is put at a position
-kinds-set : (t : List Node) (i : ℕ) (n : Node) → kindsOf (set t i n) ≡ set (kindsOf t) i (n .kind)
-kinds-set [] i n = refl
-kinds-set (x ∷ t) zero n = refl
-kinds-set (x ∷ t) (suc i) n = ap (λ (l : List ℕ). x .kind ∷ l) (kinds-set t i n)
 
 -- hearing a board changes no type
 kinds-heard : (t : List Node) (p mac : ℕ) → kindsOf (hearMac t p mac) ≡ kindsOf t
@@ -64,21 +52,15 @@ kinds-heard t p mac = go (wantedAt (Mac mac) t p)
 
 -- the types after a step that may have joined a board of this type
 abbrev Retypes : List Node → ℕ → After → Type 0
-Retypes t kind a = retyped (kindsOf t) (a .joined) kind ≡ kindsOf (a .nodes)
+Retypes t kind a = columnWith (kindsOf t) (a .joined) kind ≡ kindsOf (a .nodes)
 
 -- those of a join: its own where it is taken, else as they were
-join-retypes : (c : Coordinator) (t : List Node) → fits c t ≡ true → (kind mac session : ℕ) → Retypes t kind (joinOf c t kind mac session)
+join-retypes : (c : Coordinator) (t : List Node) → fits c t ≡ true → (kind mac session version : ℕ) → Retypes t kind (joinOf c t kind mac session version)
 unfolding joinOf choose
-join-retypes c t fit kind mac session = by-rules (Retypes t kind) (joinRules c t kind mac) (refused c t) (joinedAs c t kind mac session) (each {Q = λ (r : Refusal). Retypes t kind (refused c t r)} (λ r. refl) (joinRules c t kind mac)) taken
+join-retypes c t fit kind mac session version = by-rules (Retypes t kind) (joinRules c t kind mac version) (refused c t) (joinedAs c t kind mac session version) (each {Q = λ (r : Refusal). Retypes t kind (refused c t r)} (λ r. refl) (joinRules c t kind mac version)) taken
   where
-    n : ℕ
-    n = chosen t (c .setup .k) mac
-
-    taken : Passed (joinRules c t kind mac) → Retypes t kind (joinedAs c t kind mac session)
-    taken rules = sym (choose-yes _ _ _ _ (both _ _ (lt-ltb 0 n (within .from)) (le-leb n 40 (omega (arith, within .upTo, fit-told c t fit .setup .pool .upTo)))) (same-kinds (relisted-kinds _) (relisted-length _) ∙ ap kindsOf (put-position t n (joinedNode kind mac session) (within .from)) ∙ kinds-set t (n - 1) (joinedNode kind mac session)))
-      where
-        within : Position (c .setup .k) n
-        within = chosen-within t (c .setup .k) mac (eqb-false n 0 (rules .1 .1 .1 .1 .1 .0))
+    taken : Passed (joinRules c t kind mac version) → Retypes t kind (joinedAs c t kind mac session version)
+    taken _ = column-put kindOf t (fits-forty c t fit) _ (joinedNode kind mac session version) ∙ sym (same-kinds (relisted-kinds _) (relisted-length _))
 
 -- stored is counted after hearing a board too, and after a join
 numbered-heard : (t : List Node) (p mac : ℕ) → Numbered t → Numbered (hearMac t p mac)
@@ -89,9 +71,9 @@ numbered-heard t p mac stored = go (wantedAt (Mac mac) t p)
     go true = put-numbered t p (heard (at t p)) refl refl stored
     go false = stored
 
-numbered-join : (c : Coordinator) (t : List Node) → fits c t ≡ true → (kind mac session : ℕ) → Numbered (joinOf c t kind mac session .nodes)
+numbered-join : (c : Coordinator) (t : List Node) → fits c t ≡ true → (kind mac session version : ℕ) → Numbered (joinOf c t kind mac session version .nodes)
 unfolding joinOf
-numbered-join c t fit kind mac session = by-rules (λ (a : After). Numbered (a .nodes)) (joinRules c t kind mac) (refused c t) (joinedAs c t kind mac session) (each {Q = λ (r : Refusal). Numbered t} (λ r. table .numbered) (joinRules c t kind mac)) (λ _. relisted-stored _ (put-length t _ _ ∙ table .boards .forty))
+numbered-join c t fit kind mac session version = by-rules (λ (a : After). Numbered (a .nodes)) (joinRules c t kind mac version) (refused c t) (joinedAs c t kind mac session version) (each {Q = λ (r : Refusal). Numbered t} (λ r. table .numbered) (joinRules c t kind mac version)) (λ _. relisted-stored _ (put-length t _ _ ∙ table .boards .forty))
   where
     table : FitTable (c .setup .k) t
     table = fit-told c t fit .table
@@ -120,11 +102,11 @@ module _ (c : Coordinator) (t : List Node) (position : ℕ) (f : Found) where
   outcome-retypes fit = go (eqb (joinFound c t f .joined) position)
     where
       go : (b : Bool) → Retypes t (f .kind) (choose b (joinFound c t f) (resting (ended c) (hearMac t position (f .mac)) 0 0))
-      go true = join-retypes (ended c) t (ended-fits c t fit) (f .kind) (f .mac) (f .session)
+      go true = join-retypes (ended c) t (ended-fits c t fit) (f .kind) (f .mac) (f .session) (f .version)
       go false = sym (kinds-heard t position (f .mac))
 
   -- what is shown of the ACK is what is shown of a step that has it as its bytes
-  as-written : (w : Writing) → ackShown w c t (shows (outcome c t position f)) ≡ shownAs w c t (acknowledged (c .setup) position (outcome c t position f))
+  as-written : (w : Writing) → ackShown w c t (shows (outcome c t position f)) ≡ shownAs w c t (acknowledged (c .setup) position (f .version) (outcome c t position f))
   as-written (Written n) = refl
   as-written (NotWritten q) = refl
 
@@ -144,17 +126,17 @@ module _ (c : Coordinator) (t : List Node) (position : ℕ) (f : Found) where
     outcome-numbered = go (eqb (joinFound c t f .joined) position)
       where
         go : (b : Bool) → Numbered (choose b (joinFound c t f) (resting (ended c) (hearMac t position (f .mac)) 0 0) .nodes)
-        go true = numbered-join (ended c) t (ended-fits c t (saw .fit)) (f .kind) (f .mac) (f .session)
+        go true = numbered-join (ended c) t (ended-fits c t (saw .fit)) (f .kind) (f .mac) (f .session) (f .version)
         go false = numbered-heard t position (f .mac) (fit-told c t (saw .fit) .table .numbered)
 
     -- so what is counted among the types after it is the index that the ACK carries
-    ack-index : {types : List ℕ} {joined index : ℕ} → types ≡ retyped kinds joined (f .kind) → joined ≡ outcome c t position f .joined → index ≡ indexOf (typed types) position → index ≡ at (outcome c t position f .nodes) position .index
+    ack-index : {types : List ℕ} {joined index : ℕ} → types ≡ columnWith kinds joined (f .kind) → joined ≡ outcome c t position f .joined → index ≡ indexOf (typed types) position → index ≡ at (outcome c t position f .nodes) position .index
     ack-index e j i = i ∙ rw (e, known, j, outcome-retypes (saw .fit)) (kinds-index (typed-kinds (outcome c t position f .nodes) outcome-forty) position ∙ sym (outcome-numbered position))
 
     -- where the ACK carries the index of the records that the end leaves, it leaves what the definition says
-    pub leaves-settled : (x : Change) (p before after : List ℕ) (ending : Change) → applied ending p c t ≡ shows (outcome c t position f) → {types : List ℕ} → types ≡ retyped kinds (ending .outcome .joined) (f .kind) → {index : ℕ} → index ≡ indexOf (typed types) position → (w : Writing) → Sends (signedHeader (s .setup) position index) (signed (s .setup) ackCode) w before after → applied x p c t ≡ ackShown w c t (applied ending p c t)
+    pub leaves-settled : (x : Change) (p before after : List ℕ) (ending : Change) → applied ending p c t ≡ shows (outcome c t position f) → {types : List ℕ} → types ≡ columnWith kinds (ending .outcome .joined) (f .kind) → {index : ℕ} → index ≡ indexOf (typed types) position → (w : Writing) → Sends (signedHeader (s .setup) position (f .version) index) (signed (s .setup) ackCode) w before after → applied x p c t ≡ ackShown w c t (applied ending p c t)
         → Leaves (settled c t position f (length before)) (made x p c t) before after
     leaves-settled x p before after ending e types index w sends h =
-        leaves-ack-written (c .setup) (outcome c t position f .nodes) position c t (acknowledged (c .setup) position (outcome c t position f)) refl (made x p c t) before after w
+        leaves-ack-written (c .setup) (outcome c t position f .nodes) position (f .version) c t (acknowledged (c .setup) position (f .version) (outcome c t position f)) refl (made x p c t) before after w
         (rw (ack-index types (ap (λ (y : Shown). y .joined) e) index, saw .setup) at sends)
         (h ∙ ap (ackShown w c t) e ∙ as-written w)

@@ -27,13 +27,13 @@ ghost use Rattle.board.specs.Columns.{macsOf};
 ghost use Rattle.accept.specs.Replies.{toldReply};
 ghost use Rattle.coordinator.specs.declared.Coordinator.{Coordinator};
 ghost use Rattle.coordinator.specs.State.{stateOf};
-ghost use Rattle.look.specs.Seen.{OfTypes, OfMacs};
+ghost use Rattle.look.specs.Seen.{OfTypes, OfBoards};
 ghost use Rattle.steps.specs.After.{refused, shows};
 ghost use Rattle.steps.specs.Seek.{joinFound, answered, present, outcome, settled, replyIn, repliedAs, soughtIn, quietInSeek};
 ghost use Rattle.steps.specs.Discover.{discoverRules, searched, discoverOf};
 ghost use Rattle.change.specs.Change.{applied};
 ghost use Rattle.change.specs.Decides.{Makes, Decides};
-ghost use Rattle.seek.specs.Parts.{macPlace, foundAt, teller, heldBackIn, hearing, retyped};
+ghost use Rattle.seek.specs.Parts.{macPlace, versionIn, foundAt, teller, heldBackIn, hearing};
 
 // Whether a discovery is held back: joins are held, or one was started since the last offer and someone is listed, that is
 // the highest listed position is not 0.
@@ -96,36 +96,69 @@ fn mac_place(reply: Reply) -> usize
     }
 }
 
-// Who sent a reply: the type is its first byte, the MAC stands at a place, and the session right after it. Every reply is
-// read here, so that this is compiled once.
-fn found_at(payload: &[u8], at: usize) -> Found
+// The version of who sent a reply: a discovery's response tells it by its packet number, and every other reply comes from
+// the subnet of what was discovered.
+fn version_in(reply: Reply, packet: u8, found: Found) -> u8
+    ensures { λ r. ⌜ r ≡ versionIn reply packet found ⌝ }
+{
+    match reply {
+        Reply::Discovered => board::version_of(packet / 32 % 2),
+        _ => found.version,
+    }
+}
+
+// Who sent a reply, with this version: the type is its first byte, the MAC stands at a place, and the session right after
+// it. Every reply is read here, so that this is compiled once.
+fn found_at(payload: &[u8], at: usize, version: u8) -> Found
     requires { ⌜ at ≤ 2 ⌝ }
-    ensures { λ r. ⌜ r ≡ foundAt (now (payload .entry)) at ⌝ }
+    ensures { λ r. ⌜ r ≡ foundAt (now (payload .entry)) at version ⌝ }
 {
     Found {
         kind: first_byte(payload),
+        version: version,
         mac: word::word_at(payload, at),
         session: word::word_at(payload, at + 8),
     }
 }
 
 // The join of a board, on the coordinator at rest.
-fn join_found(seen: Seen, kinds: &[u8; 40], macs: &[u64; 40], found: Found) -> Change
-    ensures { λ r. ⌜ Makes seen (OfMacs (now (kinds .entry)) (now (macs .entry))) (λ c t. joinFound c t found) r ⌝ }
+fn join_found(
+    seen: Seen,
+    kinds: &[u8; 40],
+    versions: &[u8; 40],
+    macs: &[u64; 40],
+    found: Found,
+) -> Change
+    ensures { λ r. ⌜ Makes seen (OfBoards (now (kinds .entry)) (now (versions .entry)) (now (macs .entry))) (λ c t. joinFound c t found) r ⌝ }
 {
     let state = seen.state;
     let mut rested = seen;
     rested.state = coordinator::ended(state);
-    let joined = join::join(rested, kinds, macs, found.kind, found.mac, found.session);
+    let joined = join::join(
+        rested,
+        kinds,
+        versions,
+        macs,
+        found.kind,
+        found.mac,
+        found.session,
+        found.version,
+    );
     change::ending(joined)
 }
 
 // The discovery was answered. Where who answered could join, the position that it would take is at stake; else the
 // exchange breaks off.
-fn answered(seen: Seen, kinds: &[u8; 40], macs: &[u64; 40], found: Found) -> Change
-    ensures { λ r. ⌜ Makes seen (OfMacs (now (kinds .entry)) (now (macs .entry))) (λ c t. answered c t found) r ⌝ }
+fn answered(
+    seen: Seen,
+    kinds: &[u8; 40],
+    versions: &[u8; 40],
+    macs: &[u64; 40],
+    found: Found,
+) -> Change
+    ensures { λ r. ⌜ Makes seen (OfBoards (now (kinds .entry)) (now (versions .entry)) (now (macs .entry))) (λ c t. answered c t found) r ⌝ }
 {
-    let joined = join_found(seen, kinds, macs, found);
+    let joined = join_found(seen, kinds, versions, macs, found);
     let position = joined.outcome.joined;
     if 0 < position {
         let next = Move::Finding(found, position);
@@ -160,10 +193,17 @@ fn present(seen: Seen, macs: &[u64; 40], position: usize, mac: u64) -> Change
 }
 
 // How the exchange ends: who answered joins, where it takes the position at stake; else nobody does.
-fn outcome(seen: Seen, kinds: &[u8; 40], macs: &[u64; 40], position: usize, found: Found) -> Change
-    ensures { λ r. ⌜ Makes seen (OfMacs (now (kinds .entry)) (now (macs .entry))) (λ c t. outcome c t position found) r ⌝ }
+fn outcome(
+    seen: Seen,
+    kinds: &[u8; 40],
+    versions: &[u8; 40],
+    macs: &[u64; 40],
+    position: usize,
+    found: Found,
+) -> Change
+    ensures { λ r. ⌜ Makes seen (OfBoards (now (kinds .entry)) (now (versions .entry)) (now (macs .entry))) (λ c t. outcome c t position found) r ⌝ }
 {
-    let joined = join_found(seen, kinds, macs, found);
+    let joined = join_found(seen, kinds, versions, macs, found);
     if joined.outcome.joined == position {
         return joined;
     }
@@ -171,36 +211,24 @@ fn outcome(seen: Seen, kinds: &[u8; 40], macs: &[u64; 40], position: usize, foun
     change::ending(change::resting(Move::Stay, position, edit, false, 0, 0))
 }
 
-// The types once a board has joined at a position; as they were where that is 0.
-fn retyped(kinds: &[u8; 40], position: usize, kind: u8) -> [u8; 40]
-    ensures { λ r. ⌜ r ≡ retyped (now (kinds .entry)) position kind ⌝ }
-{
-    let mut after = *kinds;
-    if 0 < position {
-        if position <= 40 {
-            let i = position - 1;
-            after[i] = kind;
-        }
-    }
-    after
-}
-
 // Writes the ACK to a response that ends the exchange, with the index of the records that it leaves: it is counted among
 // the types after it, since those records are not there yet. Where there is room for the ACK the exchange has ended.
 fn settled(
     seen: Seen,
     kinds: &[u8; 40],
+    versions: &[u8; 40],
     macs: &[u64; 40],
     position: usize,
     found: Found,
     out: &mut [u8],
 ) -> Change
-    ensures { λ r. ⌜ Decides seen (OfMacs (now (kinds .entry)) (now (macs .entry))) (λ c t. settled c t position found (length (now (out .entry)))) r (now (out .entry)) (now (out .exit)) ⌝ }
+    ensures { λ r. ⌜ Decides seen (OfBoards (now (kinds .entry)) (now (versions .entry)) (now (macs .entry))) (λ c t. settled c t position found (length (now (out .entry)))) r (now (out .entry)) (now (out .exit)) ⌝ }
 {
-    let mut after = outcome(seen, kinds, macs, position, found);
-    let types = retyped(kinds, after.outcome.joined, found.kind);
+    let mut after = outcome(seen, kinds, versions, macs, position, found);
+    let types = board::with_byte(kinds, after.outcome.joined, found.kind);
     let index = board::index_of(&types, position);
-    match message::write_signed(seen.setup, position, index as u8, 6, out) {
+    let number = index as u8;
+    match message::write_signed(seen.setup, position, found.version, number, 6, out) {
         Writing::Written(n) => {
             let told = Outcome {
                 answer: Answer::Transmit,
@@ -234,7 +262,7 @@ fn reply_in(part: Part, position: usize, seen: Seen, header: Header, payload: &[
             let same = accept::is_assignment(
                 payload,
                 address,
-                setup.subnet,
+                setup::subnet_of(setup, found.version),
                 found.mac,
                 found.session,
             );
@@ -260,20 +288,23 @@ fn replied(
     position: usize,
     seen: Seen,
     kinds: &[u8; 40],
+    versions: &[u8; 40],
     macs: &[u64; 40],
+    packet: u8,
     payload: &[u8],
     out: &mut [u8],
 ) -> Change
-    ensures { λ r. ⌜ Decides seen (OfMacs (now (kinds .entry)) (now (macs .entry))) (λ c t. repliedAs reply position c t (now (payload .entry)) (length (now (out .entry)))) r (now (out .entry)) (now (out .exit)) ⌝ }
+    ensures { λ r. ⌜ Decides seen (OfBoards (now (kinds .entry)) (now (versions .entry)) (now (macs .entry))) (λ c t. repliedAs reply position c t packet (now (payload .entry)) (length (now (out .entry)))) r (now (out .entry)) (now (out .exit)) ⌝ }
 {
-    let told = found_at(payload, mac_place(reply));
+    let version = version_in(reply, packet, seen.state.found);
+    let told = found_at(payload, mac_place(reply), version);
     match reply {
-        Reply::Discovered => answered(seen, kinds, macs, told),
+        Reply::Discovered => answered(seen, kinds, versions, macs, told),
         Reply::Present => present(seen, macs, position, told.mac),
         Reply::Refused(refusal) => change::refusing(refusal),
         _ => {
             let found = teller(reply, seen.state.found, told);
-            settled(seen, kinds, macs, position, found, out)
+            settled(seen, kinds, versions, macs, position, found, out)
         }
     }
 }
@@ -284,15 +315,26 @@ pub fn sought(
     position: usize,
     seen: Seen,
     kinds: &[u8; 40],
+    versions: &[u8; 40],
     macs: &[u64; 40],
     header: Header,
     payload: &[u8],
     out: &mut [u8],
 ) -> Change
-    ensures { λ r. ⌜ Decides seen (OfMacs (now (kinds .entry)) (now (macs .entry))) (λ c t. soughtIn part position c t header (now (payload .entry)) (length (now (out .entry)))) r (now (out .entry)) (now (out .exit)) ⌝ }
+    ensures { λ r. ⌜ Decides seen (OfBoards (now (kinds .entry)) (now (versions .entry)) (now (macs .entry))) (λ c t. soughtIn part position c t header (now (payload .entry)) (length (now (out .entry)))) r (now (out .entry)) (now (out .exit)) ⌝ }
 {
     let reply = reply_in(part, position, seen, header, payload);
-    replied(reply, position, seen, kinds, macs, payload, out)
+    replied(
+        reply,
+        position,
+        seen,
+        kinds,
+        versions,
+        macs,
+        header.packet,
+        payload,
+        out,
+    )
 }
 
 // Quiet in the exchange: where nobody answered at the address at stake it is free, and is to be assigned; else the

@@ -17,7 +17,7 @@ use Rattle.coordinator.specs.declared.Phase.the-variants.{Resting}
 use Rattle.coordinator.specs.Phase.{phaseOf}
 use Rattle.steps.specs.declared.Event.the-variants.{Join, Turn, Frame, Quiet}
 use Rattle.steps.specs.After.{rests}
-use Rattle.steps.specs.Join.{chosen}
+use Rattle.steps.specs.Join.{known, chosen, tooManyWith}
 use Rattle.series.specs.Series.{Input, World, Panel, left, Fresh, after, isAccepted, waitedFor, offers, accepted, stays}
 use Rattle.series.specs.Observed.{nothing, saw, seen}
 
@@ -61,8 +61,8 @@ Bounded P =
     (k : ℕ) (w : World) → Fresh P k w → (is js : List Input) (p : ℕ) → stays P (after P w is) js p ≡ true → bound k ≤ accepted P (after P w is) js → among p (offers P (after P w is) js) ≡ true
 
 -- a join; a frame; a turn, and a quiet, with this room
-abbrev pub joinWith : ℕ → ℕ → ℕ → Input
-joinWith kind mac session = record { event = Join kind mac session; received = []; room = 0 }
+abbrev pub joinWith : ℕ → ℕ → ℕ → ℕ → Input
+joinWith kind mac session version = record { event = Join kind mac session version; received = []; room = 0 }
 
 abbrev pub frameWith : List ℕ → ℕ → Input
 frameWith received room = record { event = Frame; received = received; room = room }
@@ -93,16 +93,17 @@ abbrev pub Starts : Panel → Type 0
 Starts P =
     (w : World) (addresses : List ℕ) (subnet internal mac session : ℕ) → length (w .nodes) ≡ 40 → isPool addresses ≡ true → isMac mac ≡ true → P .start w addresses subnet internal mac session .says ≡ rests
 
--- a join that the rules allow: type and MAC in their ranges, at rest, nothing owed, not held, and a free position or a listed MAC (01, "Join" and numbers 12 to 16)
-pub record Allowed (w : World) (kind mac : ℕ) : Type 0 where
+-- a join that the rules allow: type and MAC in their ranges, at rest, nothing owed, not held, not too many types, and a free position or a listed MAC (01, "Join" and numbers 12 to 16; 02, C-15)
+pub record Allowed (w : World) (kind mac version : ℕ) : Type 0 where
   pub kindFits : isKind kind ≡ true
   pub macFits : isMac mac ≡ true
   pub rest : phaseOf (w .coordinator .stand) ≡ Resting
   pub nothingOwed : lowestOf (w .nodes) Owed (w .coordinator .setup .k) ≡ 0
   pub notHeld : w .coordinator .held ≡ 0
+  pub fewTypes : tooManyWith (w .nodes) (known (w .nodes) (w .coordinator .setup .k) mac) kind version ≡ false
   pub place : 1 ≤ chosen (w .nodes) (w .coordinator .setup .k) mac
 
 -- such a join is accepted, and names its position
 abbrev pub TakesJoins : Panel → Type 0
 TakesJoins P =
-    (k : ℕ) (w : World) → Fresh P k w → (is : List Input) (kind mac session : ℕ) → Allowed (after P w is) kind mac → (P .step (after P w is) (joinWith kind mac session) .says ≡ rests) × (P .step (after P w is) (joinWith kind mac session) .joined ≡ chosen (after P w is .nodes) (after P w is .coordinator .setup .k) mac)
+    (k : ℕ) (w : World) → Fresh P k w → (is : List Input) (kind mac session version : ℕ) → Allowed (after P w is) kind mac version → (P .step (after P w is) (joinWith kind mac session version) .says ≡ rests) × (P .step (after P w is) (joinWith kind mac session version) .joined ≡ chosen (after P w is .nodes) (after P w is .coordinator .setup .k) mac)

@@ -7,6 +7,7 @@ use lib.Dec.{eqb, leb}
 use Rattle.ground.specs.Choose.{choose}
 use Rattle.refusal.specs.Refusal.{refuses}
 use Rattle.refusal.specs.declared.Refusal.the-variants.{Busy}
+use Rattle.frame.specs.Frame.{headerOf}
 use Rattle.board.specs.declared.Node.{Node}
 use Rattle.board.specs.Node.{isKind, isMac}
 use Rattle.board.specs.Wanted.{someListed}
@@ -27,14 +28,14 @@ use Rattle.series.specs.Demand.{joinWith, turnWith}
 
 -- a discovery, and a frame
 abbrev pub isDiscover : Event → Bool
-isDiscover (Join kind mac session) = false
+isDiscover (Join kind mac session version) = false
 isDiscover Turn = false
 isDiscover Frame = false
 isDiscover Quiet = false
 isDiscover Discover = true
 
 abbrev pub isFrame : Event → Bool
-isFrame (Join kind mac session) = false
+isFrame (Join kind mac session version) = false
 isFrame Turn = false
 isFrame Frame = true
 isFrame Quiet = false
@@ -42,7 +43,7 @@ isFrame Discover = false
 
 -- a frame or a quiet, which a wait is about
 abbrev pub isAnswered : Event → Bool
-isAnswered (Join kind mac session) = false
+isAnswered (Join kind mac session version) = false
 isAnswered Turn = false
 isAnswered Frame = true
 isAnswered Quiet = true
@@ -65,8 +66,8 @@ begun a t = record { wait = waitsIn (a .says); position = waitedFor (a .says); s
 -- who a frame tells of: in search the discovery's response, in identify the ID of whoever it lists
 abbrev pub tells : Course → List ℕ → After → Found
 tells x b a =
-    choose (eqb (x .wait) 5) (discovered (payload b))
-    (choose (eqb (x .wait) 6 && not (eqb (a .joined) 0)) (identified (payload b)) (x .who))
+    choose (eqb (x .wait) 5) (discovered (headerOf b .packet) (payload b))
+    (choose (eqb (x .wait) 6 && not (eqb (a .joined) 0)) (identified (x .who .version) (payload b)) (x .who))
 
 -- a frame in identify that lists nobody is heard from the board there by its own MAC
 abbrev pub hears : Course → List ℕ → After → List Node
@@ -127,10 +128,10 @@ reached P w d js = after P (left (P .step w d)) js
 -- and a Set Address Response that is accepted joins.
 pub record OneJoin (P : Panel) : Type 0 where
   pub few : (k : ℕ) (w : World) → Fresh P k w → (is : List Input) (d : Input) (js : List Input) → Runs P (after P w is) d js → comes P (after P w is) d js .steps ≤ 6
-  pub busy : (k : ℕ) (w : World) → Fresh P k w → (is : List Input) (d : Input) (js : List Input) → Runs P (after P w is) d js → isRunning P (reached P (after P w is) d js) (comes P (after P w is) d js) ≡ true → (kind mac session : ℕ) → isKind kind ≡ true → isMac mac ≡ true → P .step (reached P (after P w is) d js) (joinWith kind mac session) .says ≡ refuses Busy
+  pub busy : (k : ℕ) (w : World) → Fresh P k w → (is : List Input) (d : Input) (js : List Input) → Runs P (after P w is) d js → isRunning P (reached P (after P w is) d js) (comes P (after P w is) d js) ≡ true → (kind mac session version : ℕ) → isKind kind ≡ true → isMac mac ≡ true → P .step (reached P (after P w is) d js) (joinWith kind mac session version) .says ≡ refuses Busy
   pub alone : (k : ℕ) (w : World) → Fresh P k w → (is : List Input) (d : Input) (js : List Input) → Runs P (after P w is) d js → isRunning P (reached P (after P w is) d js) (comes P (after P w is) d js) ≡ true → (i : Input) → isAccepted (P .step (reached P (after P w is) d js) i .says) ≡ true → isOf (comes P (after P w is) d js) i (P .step (reached P (after P w is) d js) i) ≡ true
   pub broken : (k : ℕ) (w : World) → Fresh P k w → (is : List Input) (d : Input) (js : List Input) → Runs P (after P w is) d js → isRunning P (reached P (after P w is) d js) (comes P (after P w is) d js) ≡ false → comes P (after P w is) d js .joins ≡ 0 → reached P (after P w is) d js ≡ record { coordinator = before (after P w is .coordinator); nodes = comes P (after P w is) d js .nodes }
-  pub joined : (k : ℕ) (w : World) → Fresh P k w → (is : List Input) (d : Input) (js : List Input) → Runs P (after P w is) d js → 1 ≤ comes P (after P w is) d js .joins → (comes P (after P w is) d js .joins ≡ 1) × (reached P (after P w is) d js ≡ left (joinOf (before (after P w is .coordinator)) (comes P (after P w is) d js .nodes) (comes P (after P w is) d js .who .kind) (comes P (after P w is) d js .who .mac) (comes P (after P w is) d js .who .session)))
+  pub joined : (k : ℕ) (w : World) → Fresh P k w → (is : List Input) (d : Input) (js : List Input) → Runs P (after P w is) d js → 1 ≤ comes P (after P w is) d js .joins → (comes P (after P w is) d js .joins ≡ 1) × (reached P (after P w is) d js ≡ left (joinOf (before (after P w is .coordinator)) (comes P (after P w is) d js .nodes) (comes P (after P w is) d js .who .kind) (comes P (after P w is) d js .who .mac) (comes P (after P w is) d js .who .session) (comes P (after P w is) d js .who .version)))
   pub assigned : (k : ℕ) (w : World) → Fresh P k w → (is : List Input) (d : Input) (js : List Input) → Runs P (after P w is) d js → comes P (after P w is) d js .wait ≡ 7 → (i : Input) → isFrame (i .event) ≡ true → isAccepted (P .step (reached P (after P w is) d js) i .says) ≡ true → P .step (reached P (after P w is) d js) i .joined ≡ comes P (after P w is) d js .position
 
 -- how many discoveries were started in a series

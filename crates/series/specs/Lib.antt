@@ -6,4 +6,5 @@ pub mod StoredIndex
 pub mod Exchange
 pub mod Wire
 pub mod Others
+pub mod OldBoards
 pub mod Ours

@@ -1,4 +1,4 @@
--- What an observer sees of a series: steps and answers, none of the panel's own counters (00, demand 3; 01, the last lines of "Steps"; 02, C-11 and C-12).
+-- What an observer sees of a series: steps and answers, none of the panel's own counters (00, demand 3; 01, the last lines of "Steps"; 02, C-11, C-12 and C-15).
 use Prim.Native.Nat.{ℕ, _+_}
 use mathlib.Core.Bool.{Bool, true, false, _&&_, _||_, not}
 use mathlib.Core.List.{List, [], _∷_}
@@ -7,6 +7,7 @@ use Rattle.ground.specs.Choose.{choose}
 use Rattle.refusal.specs.Refusal.{Told}
 use Rattle.frame.specs.Frame.{headerOf}
 use Rattle.board.specs.declared.Node.{Node}
+use Rattle.board.specs.Node.{none, versionOf}
 use Rattle.setup.specs.Setup.{address}
 use Rattle.coordinator.specs.declared.Found.{Found}
 use Rattle.coordinator.specs.Fresh.{blankFound}
@@ -17,19 +18,20 @@ use Rattle.steps.specs.Seek.{discovered, identified}
 use Rattle.steps.specs.Receive.{payload}
 use Rattle.series.specs.Series.{Input, World, Panel, left, isAccepted, waitedFor, waitsIn, isSeek}
 
--- who a board is: its type and its MAC
+-- who a board is: its type, its version and its MAC
 pub record Who : Type 0 where
   pub kind : ℕ
+  pub version : ℕ
   pub mac : ℕ
 
 -- as its record has it; as it answered in the exchange by which it joins
 abbrev pub recorded : Node → Who
-recorded n = record { kind = n .kind; mac = n .mac }
+recorded n = record { kind = n .kind; version = n .version; mac = n .mac }
 
 abbrev pub given : Found → Who
-given f = record { kind = f .kind; mac = f .mac }
+given f = record { kind = f .kind; version = versionOf (f .version); mac = f .mac }
 
--- who is on the list, as the answers told it, and who each one is, as its last join told it (02, C-12: "with the type taken from the last join"); the kind of exchange in which the panel waits, 0 for none; the board a message
+-- who is on the list, as the answers told it, and who each one is, as its last join told it (02, C-12: "with the type taken from the last join"; C-15: its version too); the kind of exchange in which the panel waits, 0 for none; the board a message
 -- to which is waited for, 0 for none, and whether it was heard in that wait; for each position the run of unanswered messages since it last joined or was last
 -- heard; and who answered the last discovery
 pub record Seen : Type 0 where
@@ -43,7 +45,7 @@ pub record Seen : Type 0 where
 
 -- a fresh start: nobody is listed, nothing is waited for
 abbrev pub nothing : Seen
-nothing = record { listed = λ p. false; who = λ p. given blankFound; wait = 0; awaited = 0; heard = false; run = λ p. 0; found = blankFound }
+nothing = record { listed = λ p. false; who = λ p. recorded none; wait = 0; awaited = 0; heard = false; run = λ p. 0; found = blankFound }
 
 -- the same but for position p
 abbrev pub changed {ℓ} : {A : Type ℓ} → (ℕ → A) → ℕ → A → ℕ → A
@@ -98,7 +100,7 @@ sawBoard received a s =
 
 -- whom a frame of the exchange by which a board joins is from: in identify whoever gives his MAC, in assign who answered the discovery (02, C-11)
 abbrev pub teller : List ℕ → Seen → Found
-teller received s = choose (eqb (s .wait) 6) (identified (payload received)) (s .found)
+teller received s = choose (eqb (s .wait) 6) (identified (s .found .version) (payload received)) (s .found)
 
 -- somebody else may sit at a listed board's address, so that it is heard in the exchange only by its own MAC; a discovery's response is nobody's who is listed (02, C-11)
 abbrev pub heardThere : List ℕ → After → Seen → ℕ → Bool
@@ -117,7 +119,7 @@ sawReply received a s =
       awaited = 0;
       heard = false;
       run = joinedTo (λ p. choose (heardThere received a s p) 0 (s .run p)) (a .joined) 0;
-      found = choose (eqb (s .wait) 5) (discovered (payload received)) (s .found);
+      found = choose (eqb (s .wait) 5) (discovered (headerOf received .packet) (payload received)) (s .found);
     }
 
 -- an accepted frame is a board's, or one of the exchange by which a board joins
@@ -139,7 +141,7 @@ sawQuiet a s =
 
 -- what is seen after one more step; a refused one shows nothing
 abbrev pub sawEvent : Event → List ℕ → After → Seen → Seen
-sawEvent (Join kind mac session) received a s = sawJoin (record { kind = kind; mac = mac }) a s
+sawEvent (Join kind mac session version) received a s = sawJoin (record { kind = kind; version = versionOf version; mac = mac }) a s
 sawEvent Turn received a s = sawSent a s
 sawEvent Frame received a s = sawFrame received a s
 sawEvent Quiet received a s = sawQuiet a s

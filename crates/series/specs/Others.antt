@@ -1,13 +1,15 @@
 -- Another system's frames on the same line (02, C-14), as a statement about a panel: proved of ours and refuted of ones that hear them.
 use mathlib.Core.Path.{_≡_}
-use mathlib.Core.Bool.{Bool, true, false, _&&_, not}
+use mathlib.Core.Bool.{Bool, true, false, _&&_, _||_, not}
 use mathlib.Core.List.{List, [], _∷_}
 use Prim.Native.Nat.{ℕ}
+use lib.Dec.{eqb}
 use Rattle.ground.specs.Choose.{choose}
 use Rattle.refusal.specs.Refusal.{Told, refuses}
 use Rattle.refusal.specs.declared.Refusal.the-variants.{OtherSubnet}
 use Rattle.frame.specs.Frame.{headerOf, takesSubnet, reading, ReadsWell}
 use Rattle.setup.specs.declared.Setup.{Setup}
+use Rattle.setup.specs.Setup.{oldSubnet}
 use Rattle.steps.specs.declared.Event.{Event}
 use Rattle.steps.specs.declared.Event.the-variants.{Join, Turn, Frame, Quiet, Discover}
 use Rattle.steps.specs.After.{After}
@@ -16,15 +18,15 @@ use Rattle.series.specs.Observed.{nothing, seen}
 
 -- bytes received, and no other step
 abbrev pub isFrame : Event → Bool
-isFrame (Join kind mac session) = false
+isFrame (Join kind mac session version) = false
 isFrame Turn = false
 isFrame Frame = true
 isFrame Quiet = false
 isFrame Discover = false
 
--- bytes of another system: "any frame whose subnet byte is neither ours nor 0" (02, C-14)
+-- bytes of another system: "any frame whose subnet byte is neither ours nor 0" (02, C-14), nor that of 1.0 boards (02, C-15)
 abbrev pub isOthers : Setup → Input → Bool
-isOthers s i = isFrame (i .event) && not (takesSubnet (s .subnet) (headerOf (i .received) .subnet))
+isOthers s i = isFrame (i .event) && not (takesSubnet (s .subnet) (headerOf (i .received) .subnet) || eqb (headerOf (i .received) .subnet) oldSubnet)
 
 -- a series without them
 unfoldable pub withoutOthers : Setup → List Input → List Input

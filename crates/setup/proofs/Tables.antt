@@ -10,13 +10,16 @@ use lib.Dec.{eqb, leb, ltb}
 use lib.ListN.{getD, length, length-map}
 use borrow.Author.Tests.{ltb-true, ltb-false, leb-true, eqb-true, eqb-false, not-true, not-false, lt-ltb, le-leb, eq-eqb, ne-eqb}
 use Rattle.ground.proofs.Choices.{and-left, and-right, both, or-left, or-right, either, not-yes}
+use Rattle.ground.specs.Choose.{choose}
 use Rattle.ground.specs.Below.{all}
 use Rattle.ground.proofs.Loops.{all-at, all-of, all-past, all-both}
 use Rattle.board.specs.declared.Node.{Node}
-use Rattle.board.specs.Node.{none, isBlank, isMac, isKind, inRange}
+use Rattle.board.specs.Node.{none, isBlank, isMac, isKind, isVersion, versionOf, inRange}
 use Rattle.board.specs.Table.{at, listedAt}
 use Rattle.board.specs.Wanted.{highestListed}
-use Rattle.board.specs.Columns.{macOf, macsOf, kindsOf, storedIndex, storedIndexes, typed}
+use Rattle.board.specs.Columns.{macOf, macsOf, kindsOf, storedIndex, storedIndexes, versionsOf, typed}
+use Rattle.board.specs.Types.{tooManyTypes}
+use Rattle.board.proofs.Types.{rule-told, rule-passes}
 use Rattle.board.proofs.Columns.{column-next}
 use Rattle.board.proofs.Index.{index-nobody}
 use Rattle.board.proofs.LowestWanted.{none-above}
@@ -29,14 +32,17 @@ use Rattle.setup.proofs.Pools.{mac-told, mac-passes}
 
 -- one record
 
-zeros : (k m s i o x : ℕ) → k ≡ 0 → m ≡ 0 → s ≡ 0 → i ≡ 0 → o ≡ 0 → x ≡ 0 → _≡_ {A = Node} (record { kind = k; mac = m; session = s; misses = i; owed = o; index = x }) none
-zeros k m s i o x a b c d e f = rw (a, b, c, d, e, f) refl
+zeros : (k m s i o x v : ℕ) → k ≡ 0 → m ≡ 0 → s ≡ 0 → i ≡ 0 → o ≡ 0 → x ≡ 0 → v ≡ 0 → _≡_ {A = Node} (record { kind = k; mac = m; session = s; misses = i; owed = o; index = x; version = v }) none
+zeros k m s i o x v a b c d e f g = rw (a, b, c, d, e, f, g) refl
 
 pub blank-told : (n : Node) → isBlank n ≡ true → n ≡ none
-blank-told n h = zeros (n .kind) (n .mac) (n .session) (n .misses) (n .owed) (n .index) (eqb-true (n .kind) 0 (and-left _ _ h4)) (eqb-true (n .mac) 0 (and-right (eqb (n .kind) 0) _ h4)) (eqb-true (n .session) 0 (and-right (eqb (n .kind) 0 && eqb (n .mac) 0) _ h3)) (eqb-true (n .misses) 0 (and-right (eqb (n .kind) 0 && eqb (n .mac) 0 && eqb (n .session) 0) _ h2)) (eqb-true (n .owed) 0 (and-right (eqb (n .kind) 0 && eqb (n .mac) 0 && eqb (n .session) 0 && eqb (n .misses) 0) _ h1)) (eqb-true (n .index) 0 (and-right (eqb (n .kind) 0 && eqb (n .mac) 0 && eqb (n .session) 0 && eqb (n .misses) 0 && eqb (n .owed) 0) _ h))
+blank-told n h = zeros (n .kind) (n .mac) (n .session) (n .misses) (n .owed) (n .index) (n .version) (eqb-true (n .kind) 0 (and-left _ _ h4)) (eqb-true (n .mac) 0 (and-right (eqb (n .kind) 0) _ h4)) (eqb-true (n .session) 0 (and-right (eqb (n .kind) 0 && eqb (n .mac) 0) _ h3)) (eqb-true (n .misses) 0 (and-right (eqb (n .kind) 0 && eqb (n .mac) 0 && eqb (n .session) 0) _ h2)) (eqb-true (n .owed) 0 (and-right (eqb (n .kind) 0 && eqb (n .mac) 0 && eqb (n .session) 0 && eqb (n .misses) 0) _ h1)) (eqb-true (n .index) 0 (and-right (eqb (n .kind) 0 && eqb (n .mac) 0 && eqb (n .session) 0 && eqb (n .misses) 0 && eqb (n .owed) 0) _ h0)) (eqb-true (n .version) 0 (and-right (eqb (n .kind) 0 && eqb (n .mac) 0 && eqb (n .session) 0 && eqb (n .misses) 0 && eqb (n .owed) 0 && eqb (n .index) 0) _ h))
   where
+    h0 : (eqb (n .kind) 0 && eqb (n .mac) 0 && eqb (n .session) 0 && eqb (n .misses) 0 && eqb (n .owed) 0 && eqb (n .index) 0) ≡ true
+    h0 = and-left _ (eqb (n .version) 0) h
+
     h1 : (eqb (n .kind) 0 && eqb (n .mac) 0 && eqb (n .session) 0 && eqb (n .misses) 0 && eqb (n .owed) 0) ≡ true
-    h1 = and-left _ (eqb (n .index) 0) h
+    h1 = and-left _ (eqb (n .index) 0) h0
 
     h2 : (eqb (n .kind) 0 && eqb (n .mac) 0 && eqb (n .session) 0 && eqb (n .misses) 0) ≡ true
     h2 = and-left _ (eqb (n .owed) 0) h1
@@ -47,6 +53,31 @@ blank-told n h = zeros (n .kind) (n .mac) (n .session) (n .misses) (n .owed) (n 
     h4 : (eqb (n .kind) 0 && eqb (n .mac) 0) ≡ true
     h4 = and-left _ (eqb (n .session) 0) h3
 
+pub version-told : (v : ℕ) → isVersion v ≡ true → (v ≡ 1) ⊎ (v ≡ 2)
+version-told v h = go (either (eqb v 1) (eqb v 2) h)
+  where
+    go : (eqb v 1 ≡ true) ⊎ (eqb v 2 ≡ true) → (v ≡ 1) ⊎ (v ≡ 2)
+    go (inl e) = inl (eqb-true v 1 e)
+    go (inr e) = inr (eqb-true v 2 e)
+
+pub version-passes : (v : ℕ) → (v ≡ 1) ⊎ (v ≡ 2) → isVersion v ≡ true
+version-passes v (inl e) = or-left (eqb v 1) (eqb v 2) (eq-eqb v 1 e)
+version-passes v (inr e) = or-right (eqb v 1) (eqb v 2) (eq-eqb v 2 e)
+
+-- the version of a record by the one that a join gives is 1 or 2, and that of such a one is itself
+pub version-is : (v : ℕ) → (versionOf v ≡ 1) ⊎ (versionOf v ≡ 2)
+unfolding choose
+version-is v = go (eqb v 1)
+  where
+    go : (b : Bool) → (_≡_ {A = ℕ} (choose b 1 2) 1) ⊎ (_≡_ {A = ℕ} (choose b 1 2) 2)
+    go true = inl refl
+    go false = inr refl
+
+pub version-again : (v : ℕ) → (v ≡ 1) ⊎ (v ≡ 2) → versionOf v ≡ v
+unfolding choose
+version-again v (inl e) = rw e refl
+version-again v (inr e) = rw e refl
+
 ranges-told : (n : Node) → inRange n ≡ true → InRanges n
 ranges-told n h =
     record {
@@ -54,11 +85,15 @@ ranges-told n h =
       kind = eqb-false (n .kind) 165 (not-true (eqb (n .kind) 165) (and-right (not (eqb (n .kind) 0)) (not (eqb (n .kind) 165)) h3));
       mac = mac-told (n .mac) (and-right (isKind (n .kind)) (isMac (n .mac)) h2);
       misses = leb-true (n .misses) 2 (and-right (isKind (n .kind) && isMac (n .mac)) (leb (n .misses) 2) h1);
-      owed = leb-true (n .owed) 1 (and-right (isKind (n .kind) && isMac (n .mac) && leb (n .misses) 2) (leb (n .owed) 1) h);
+      owed = leb-true (n .owed) 1 (and-right (isKind (n .kind) && isMac (n .mac) && leb (n .misses) 2) (leb (n .owed) 1) h0);
+      version = version-told (n .version) (and-right (isKind (n .kind) && isMac (n .mac) && leb (n .misses) 2 && leb (n .owed) 1) (isVersion (n .version)) h);
     }
   where
+    h0 : (isKind (n .kind) && isMac (n .mac) && leb (n .misses) 2 && leb (n .owed) 1) ≡ true
+    h0 = and-left (isKind (n .kind) && isMac (n .mac) && leb (n .misses) 2 && leb (n .owed) 1) (isVersion (n .version)) h
+
     h1 : (isKind (n .kind) && isMac (n .mac) && leb (n .misses) 2) ≡ true
-    h1 = and-left (isKind (n .kind) && isMac (n .mac) && leb (n .misses) 2) (leb (n .owed) 1) h
+    h1 = and-left (isKind (n .kind) && isMac (n .mac) && leb (n .misses) 2) (leb (n .owed) 1) h0
 
     h2 : (isKind (n .kind) && isMac (n .mac)) ≡ true
     h2 = and-left (isKind (n .kind) && isMac (n .mac)) (leb (n .misses) 2) h1
@@ -67,7 +102,7 @@ ranges-told n h =
     h3 = and-left (isKind (n .kind)) (isMac (n .mac)) h2
 
 ranges-pass : (n : Node) → InRanges n → inRange n ≡ true
-ranges-pass n f = both _ _ (both _ _ (both _ _ (both _ _ (not-yes _ (ne-eqb (n .kind) 0 (f .listed))) (not-yes _ (ne-eqb (n .kind) 165 (f .kind)))) (mac-passes (n .mac) (f .mac))) (le-leb (n .misses) 2 (f .misses))) (le-leb (n .owed) 1 (f .owed))
+ranges-pass n f = both _ _ (both _ _ (both _ _ (both _ _ (both _ _ (not-yes _ (ne-eqb (n .kind) 0 (f .listed))) (not-yes _ (ne-eqb (n .kind) 165 (f .kind)))) (mac-passes (n .mac) (f .mac))) (le-leb (n .misses) 2 (f .misses))) (le-leb (n .owed) 1 (f .owed))) (version-passes (n .version) (f .version))
 
 -- a listed record that is fit is within k and its ranges, an unlisted one is blank
 listed-told : (k i : ℕ) (n : Node) → recordFits k i n ≡ true → (n .kind ≡ 0 → ⊥) → (i < k) × InRanges n
@@ -122,13 +157,17 @@ table-told k t e h =
             blank = blanks;
           };
       numbered = numbered-told t e (and-right (areApart (map macOf t)) (areNumbered t) boards);
+      types = rule-told t (not-true (tooManyTypes (kindsOf t) (versionsOf t)) (and-right (areApart (map macOf t) && areNumbered t) (not (tooManyTypes (kindsOf t) (versionsOf t))) together));
     }
   where
     records : recordsFit k t ≡ true
-    records = and-left (recordsFit k t) (areApart (map macOf t) && areNumbered t) h
+    records = and-left (recordsFit k t) (areApart (map macOf t) && areNumbered t && not (tooManyTypes (kindsOf t) (versionsOf t))) h
+
+    together : (areApart (map macOf t) && areNumbered t && not (tooManyTypes (kindsOf t) (versionsOf t))) ≡ true
+    together = and-right (recordsFit k t) (areApart (map macOf t) && areNumbered t && not (tooManyTypes (kindsOf t) (versionsOf t))) h
 
     boards : (areApart (map macOf t) && areNumbered t) ≡ true
-    boards = and-right (recordsFit k t) (areApart (map macOf t) && areNumbered t) h
+    boards = and-left (areApart (map macOf t) && areNumbered t) (not (tooManyTypes (kindsOf t) (versionsOf t))) together
 
     macs : areApart (map macOf t) ≡ true
     macs = and-left (areApart (map macOf t)) (areNumbered t) boards
@@ -178,7 +217,7 @@ pair-passes m n h = go (ℕ-discrete m 0)
 
 pub table-passes : (k : ℕ) (t : List Node) → FitTable k t → tableFits k t ≡ true
 unfolding tableFits areApart
-table-passes k t f = both _ _ (all-of _ 40 (λ i l. rw (← at-next t i) (record-passes k t (f .boards) i))) (both _ _ (all-of _ (length (map macOf t)) (λ i l. all-of _ i (λ j m. pair-passes (getD (map macOf t) i 0) (getD (map macOf t) j 0) (λ ne e. f .boards .apart (i + 1) (j + 1) (listed i ne) (listed j (λ z. ne (e ∙ z))) (λ q. omega arith) (sym (column-next macOf t i) ∙ e ∙ column-next macOf t j))))) (numbered-passes t (f .numbered)))
+table-passes k t f = both _ _ (all-of _ 40 (λ i l. rw (← at-next t i) (record-passes k t (f .boards) i))) (both _ _ (both _ _ (all-of _ (length (map macOf t)) (λ i l. all-of _ i (λ j m. pair-passes (getD (map macOf t) i 0) (getD (map macOf t) j 0) (λ ne e. f .boards .apart (i + 1) (j + 1) (listed i ne) (listed j (λ z. ne (e ∙ z))) (λ q. omega arith) (sym (column-next macOf t i) ∙ e ∙ column-next macOf t j))))) (numbered-passes t (f .numbered))) (not-yes _ (rule-passes t (f .types))))
   where
     listed : (i : ℕ) → (getD (map macOf t) i 0 ≡ 0 → ⊥) → Listed t (i + 1)
     listed i ne z = ne (column-next macOf t i ∙ ap macOf (f .boards .blank (i + 1) z))

@@ -12,6 +12,7 @@ use Rattle.setup.proofs.is_mac.Reads as is-mac
 use Rattle.setup.proofs.is_pool.Reads as is-pool
 use Rattle.setup.proofs.shipped_pool.Reads as shipped-pool
 use Rattle.setup.proofs.address_at.Reads as address-at
+use Rattle.setup.proofs.subnet_of.Reads as subnet-of
 use Rattle.setup.proofs.setup_fits.Reads as setup-fits
 use Rattle.setup.proofs.judge_setup.Reads as judge-setup
 use Rattle.setup.proofs.record_fits.Reads as record-fits
@@ -28,6 +29,9 @@ unique-shipped-pool a s t r q p p′ = p ∙ sym p′
 
 pub unique-address-at : (a s t : _) (r q : ℕ) → address-at.Post tt a r s → address-at.Post tt a q t → r ≡ q
 unique-address-at a s t r q p p′ = p ∙ sym p′
+
+pub unique-subnet-of : (a s t : _) (r q : ℕ) → subnet-of.Post tt a r s → subnet-of.Post tt a q t → r ≡ q
+unique-subnet-of a s t r q p p′ = p ∙ sym p′
 
 pub unique-setup-fits : (a s t : _) (r q : Bool) → setup-fits.Post tt a r s → setup-fits.Post tt a q t → r ≡ q
 unique-setup-fits a s t r q p p′ = p ∙ sym p′

@@ -9,7 +9,8 @@ use Rattle.ground.specs.Below.{all}
 use Rattle.board.specs.declared.Node.{Node}
 use Rattle.board.specs.Node.{none, isBlank, inRange}
 use Rattle.board.specs.Wanted.{indexOf}
-use Rattle.board.specs.Columns.{macsOf, storedIndexes, typed}
+use Rattle.board.specs.Columns.{kindsOf, macsOf, storedIndexes, versionsOf, typed}
+use Rattle.board.specs.Types.{tooManyTypes}
 
 -- a record is listed within 1 to k and its ranges, or all zeros (01, "listed records within 1 to k and the ranges, others all zeros")
 unfoldable pub recordFits : ℕ → ℕ → Node → Bool
@@ -43,6 +44,6 @@ boardFits kinds indexes macs i = apartFrom macs i && numberedAt indexes (typed k
 abbrev pub talliedOne : List ℕ → ℕ → List ℕ
 talliedOne tally kind = choose (eqb kind 0) tally (set tally kind (getD tally kind 0 + 1))
 
--- forty records, listed ones within 1 to k and the ranges, with different MACs, others all zeros (01, "Fit"), and their indexes as they are counted (02, C-13)
+-- forty records, listed ones within 1 to k and the ranges, with different MACs, others all zeros (01, "Fit"), their indexes as they are counted (02, C-13), and the rule on the types (02, C-15: "Fit now includes the rule on 15 types")
 unfoldable pub tableFits : ℕ → List Node → Bool
-tableFits k t = recordsFit k t && (areApart (macsOf t) && areNumbered t)
+tableFits k t = recordsFit k t && (areApart (macsOf t) && areNumbered t && not (tooManyTypes (kindsOf t) (versionsOf t)))

@@ -4,11 +4,12 @@ use mathlib.Core.Bool.{Bool, _&&_, not}
 use mathlib.Core.List.{List, [], _∷_}
 use lib.ListN.{getD, length, take}
 use lib.Dec.{leb, ltb}
+use Rattle.ground.specs.Choose.{choose}
 use Rattle.ground.specs.Below.{all, upFrom}
 use Rattle.refusal.specs.declared.Refusal.{Refusal}
 use Rattle.refusal.specs.declared.Refusal.the-variants.{BadPool, BadMac}
 use Rattle.refusal.specs.Refusal.{Told, refuses, gives}
-use Rattle.board.specs.Node.{isMac}
+use Rattle.board.specs.Node.{isMac, isOld}
 use Rattle.setup.specs.declared.Setup.{Setup}
 use Rattle.setup.specs.declared.Judged.{Judged}
 use Rattle.setup.specs.declared.Judged.the-variants.{Fine, Refused}
@@ -36,6 +37,14 @@ shippedPool = upFrom 16 40
 -- position i, from 1 to k, stands for the pool's i-th address (01, "Boards and positions"); 0 elsewhere
 unfoldable pub address : Setup → ℕ → ℕ
 address s p = getD (0 ∷ take (s .k) (s .pool)) p 0
+
+-- the subnet of 1.0 boards (000, 11.11, 2.1.2.1.1)
+abbrev pub oldSubnet : ℕ
+oldSubnet = 2
+
+-- the subnet of a board of a version: a 1.0 board's, or ours (000, 11.11, 2.1.2; 02, C-15)
+abbrev pub subnetOf : Setup → ℕ → ℕ
+subnetOf s version = choose (isOld version) oldSubnet (s .subnet)
 
 -- pool and own MAC as the rules say (01, "Fit")
 unfoldable pub setupFits : Setup → Bool

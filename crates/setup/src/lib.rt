@@ -9,7 +9,7 @@ ghost use lib.ListN.{length, getD};
 ghost use lib.Dec.{eqb};
 ghost use Rattle.refusal.specs.Refusal.{ruled, refuses, gives};
 ghost use Rattle.board.specs.Node.{isMac, isBlank, inRange};
-ghost use Rattle.setup.specs.Setup.{areRising, arePool, isPool, shippedPool, address, setupFits, setupRules, toldOf};
+ghost use Rattle.setup.specs.Setup.{areRising, arePool, isPool, shippedPool, address, subnetOf, setupFits, setupRules, toldOf};
 ghost use Rattle.setup.specs.Fit.{recordFits, apartFrom, boardFits, talliedOne};
 ghost use Rattle.ground.specs.Below.{all};
 ghost use Rattle.ground.specs.Choose.{choose};
@@ -137,6 +137,16 @@ pub fn address_at(setup: Setup, position: usize) -> u8
     }
 }
 
+// The subnet of a board of a version: a 1.0 board's is 2, every other's ours.
+pub fn subnet_of(setup: Setup, version: u8) -> u8
+    ensures { λ r. ⌜ r ≡ subnetOf setup version ⌝ }
+{
+    if version == 1 {
+        return 2;
+    }
+    setup.subnet
+}
+
 // A MAC is 1 to 2^56 - 1.
 pub fn is_mac(mac: u64) -> bool
     ensures { λ r. ⌜ r ≡ isMac mac ⌝ }
@@ -174,22 +184,30 @@ pub fn judge_setup(addresses: &[u8], mac: u64) -> Judged
 fn in_range(node: Node) -> bool
     ensures { λ r. ⌜ r ≡ inRange node ⌝ }
 {
+    if !is_mac(node.mac) {
+        return false;
+    }
     ((node.kind != 0) & (node.kind != 165))
-        & is_mac(node.mac)
         & (node.misses <= 2)
         & (node.owed <= 1)
+        & ((node.version == 1) | (node.version == 2))
 }
 
-// All zeros.
+// All zeros. The wide fields are left first: the compiler then tests the bytes together.
 fn is_blank(node: Node) -> bool
     ensures { λ r. ⌜ r ≡ isBlank node ⌝ }
 {
+    if node.mac != 0 {
+        return false;
+    }
+    if node.session != 0 {
+        return false;
+    }
     (node.kind == 0)
-        & (node.mac == 0)
-        & (node.session == 0)
         & (node.misses == 0)
         & (node.owed == 0)
         & (node.index == 0)
+        & (node.version == 0)
 }
 
 // The record at index i, that is at position i + 1, is fit among k positions.

@@ -82,7 +82,7 @@ module _ (c : Coordinator) (t : List Node) (h : fits c t ≡ true) (received : L
   unfolding ownHeader frameOf
   settled-signs b here f = by-choice Signs (ltb room 29) (refused c t NoRoom) _ (λ _. silent) (λ _ _. ap (λ (q : ℕ). at (outcome c t b f .nodes) q .index) (sym here))
 
-  replied-signs : (b : ℕ) → p ≡ b → (r : Reply) → Signs (repliedAs r b c t (payload received) room)
+  replied-signs : (b : ℕ) → p ≡ b → (r : Reply) → Signs (repliedAs r b c t (headerOf received .packet) (payload received) room)
   replied-signs b here Discovered = answered-signs _
   replied-signs b here AckCame = silent
   replied-signs b here Identified = settled-signs b here _
@@ -93,7 +93,7 @@ module _ (c : Coordinator) (t : List Node) (h : fits c t ≡ true) (received : L
   sought-signs b part e = go part (λ w. replied-signs b (there b (fits-stake c t h e .0 .from) (fits-stake c t h e .0 .upTo) (eqb-true _ _ w)) (replyIn part b c (headerOf received) (payload received)))
     where
       go : (part : Part) → (eqb (headerOf received .source) (address (c .setup) b) ≡ true → Signs (soughtIn part b c t (headerOf received) (payload received) room)) → awaits (Seeking b part) (c .setup) (headerOf received .source) ≡ true → Signs (soughtIn part b c t (headerOf received) (payload received) room)
-      go Search there w = search-replied (λ r. Signs (repliedAs r b c t (payload received) room)) silent (headerOf received .message) (payload received) (λ _ _. answered-signs _)
+      go Search there w = search-replied (λ r. Signs (repliedAs r b c t (headerOf received .packet) (payload received) room)) silent (headerOf received .message) (payload received) (λ _ _. answered-signs _)
       go IdentifyDue there w = absurd (false≢true w)
       go Identify there w = there w
       go Present there w = there w

@@ -99,7 +99,7 @@ module _ (s : Seen) (c : Coordinator) (t : List Node) (h : fits c t ≡ true) (g
     -- a frame for which an ACK is written
     acking-tells : (room : ℕ) (says : Answered) (after : Coordinator) → after .setup ≡ c .setup → says .number ≡ 0 → ((a : After) → Waits (sawBoard received a s) (after .found) (phaseOf (after .stand))) → Told s t Frame received (acking c t b room says after)
     unfolding choose
-    acking-tells room says after same e wait = go (ltb room 29) (signedFrame (c .setup) t b ackCode)
+    acking-tells room says after same e wait = go (ltb room 29) (signedFrame (c .setup) t b (at t b .version) ackCode)
       where
         go : (short : Bool) (bytes : List ℕ) → Told s t Frame received (choose short (refused c t NoRoom) (accepted after (hear t b) says bytes))
         go true bytes = refused-tells s c t Frame received g NoRoom

@@ -103,7 +103,7 @@ module _ (s : Seen) (c : Coordinator) (t : List Node) (h : fits c t ≡ true) (g
   seek-tells : (p : ℕ) (part : Part) → InPart s (c .found) part → Told s t Quiet [] (quietInSeek part p c t)
   seek-tells p Search w = breaks (w .1)
   seek-tells p IdentifyDue w = refused-tells s c t Quiet [] g NotWaiting
-  seek-tells p Identify w = ends-tells (or-right (s .heard) (eqb (s .awaited) 0) (eq-eqb (s .awaited) 0 (w .0 .1))) (withPhase c (Seeking p AssignDue)) (rw (phase-back (seeking p AssignDue)) (w .1))
+  seek-tells p Identify w = ends-tells (or-right (s .heard) (eqb (s .awaited) 0) (eq-eqb (s .awaited) 0 (w .0 .1))) (withPhase c (Seeking p AssignDue)) (rw (phase-back (seeking p AssignDue)) (w .1, refl))
   seek-tells p Present w = breaks (w .0 .1)
   seek-tells p AssignDue w = refused-tells s c t Quiet [] g NotWaiting
   seek-tells p Assign w = breaks (w .0 .1)

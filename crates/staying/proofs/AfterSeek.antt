@@ -108,12 +108,12 @@ module _ (s : Seen) (c : Coordinator) (t : List Node) (h : fits c t ≡ true) (g
             unheard p (no ne) = heard-other a same p ne
 
     -- a step that lists whoever answered, at the position at stake
-    lists-tells : isKind (f .kind) ≡ true → chosen t (c .setup .k) (f .mac) ≡ b → Told s t Frame received (acknowledged (c .setup) b (joinedAs (ended c) t (f .kind) (f .mac) (f .session)))
+    lists-tells : isKind (f .kind) ≡ true → chosen t (c .setup .k) (f .mac) ≡ b → Told s t Frame received (acknowledged (c .setup) b (f .version) (joinedAs (ended c) t (f .kind) (f .mac) (f .session) (f .version)))
     unfolding choose
-    lists-tells one place = reply-tells refl (listed-tells g (joined-changes (ended c) t fit (f .kind) (f .mac) (f .session) one found) refl refl (λ two three. omega arith) (record { listed = joined-one (s .listed) true least; run = λ p. joined-one (λ q. choose (heardThere received a s q) 0 (s .run q)) 0 least p ∙ run p (ℕ-discrete p j); who = λ p. joined-one (s .who) (given (teller received s)) least p ∙ ap (λ (x : Found). changed (s .who) j (given x) p) who }) (rw (phase-back resting) tt))
+    lists-tells one place = reply-tells refl (listed-tells g (joined-changes (ended c) t fit (f .kind) (f .mac) (f .session) (f .version) one found) refl refl (λ two three. omega arith) (record { listed = joined-one (s .listed) true least; run = λ p. joined-one (λ q. choose (heardThere received a s q) 0 (s .run q)) 0 least p ∙ run p (ℕ-discrete p j); who = λ p. joined-one (s .who) (given (teller received s)) least p ∙ ap (λ (x : Found). changed (s .who) j (given x) p) who }) (rw (phase-back resting) tt))
       where
         a : After
-        a = acknowledged (c .setup) b (joinedAs (ended c) t (f .kind) (f .mac) (f .session))
+        a = acknowledged (c .setup) b (f .version) (joinedAs (ended c) t (f .kind) (f .mac) (f .session) (f .version))
 
         j : ℕ
         j = chosen t (c .setup .k) (f .mac)
@@ -132,7 +132,7 @@ module _ (s : Seen) (c : Coordinator) (t : List Node) (h : fits c t ≡ true) (g
         run p (no ne) = rw (ne-eqb p j ne, heard-other a refl p (λ e. ne (e ∙ sym place))) refl
 
     -- where nobody is listed the exchange breaks off, with its ACK
-    breaks-tells : Told s t Frame received (acknowledged (c .setup) b (rested (ended c) (hearMac t b (f .mac)) 0 0))
+    breaks-tells : Told s t Frame received (acknowledged (c .setup) b (f .version) (rested (ended c) (hearMac t b (f .mac)) 0 0))
     breaks-tells = hears-tells refl refl refl refl (rw (phase-back resting) tt)
 
     -- whoever answered joins where his join is accepted and takes the position at stake
@@ -141,54 +141,54 @@ module _ (s : Seen) (c : Coordinator) (t : List Node) (h : fits c t ≡ true) (g
     settled-tells room = by-room (ltb room 29)
       where
         Ends : After → Type 0
-        Ends x = Told s t Frame received (acknowledged (c .setup) b (choose (eqb (x .joined) b) x (rested (ended c) (hearMac t b (f .mac)) 0 0)))
+        Ends x = Told s t Frame received (acknowledged (c .setup) b (f .version) (choose (eqb (x .joined) b) x (rested (ended c) (hearMac t b (f .mac)) 0 0)))
 
         refuses : (r : Refusal) → Ends (refused (ended c) t r)
         refuses r = rw (ne-eqb 0 b (λ e. omega (arith, here .from))) breaks-tells
 
-        joins : Passed (joinRules (ended c) t (f .kind) (f .mac)) → Ends (joinedAs (ended c) t (f .kind) (f .mac) (f .session))
+        joins : Passed (joinRules (ended c) t (f .kind) (f .mac) (f .version)) → Ends (joinedAs (ended c) t (f .kind) (f .mac) (f .session) (f .version))
         joins passed = go (eqb (chosen t (c .setup .k) (f .mac)) b) refl
           where
-            go : (x : Bool) → eqb (chosen t (c .setup .k) (f .mac)) b ≡ x → Told s t Frame received (acknowledged (c .setup) b (choose x (joinedAs (ended c) t (f .kind) (f .mac) (f .session)) (rested (ended c) (hearMac t b (f .mac)) 0 0)))
+            go : (x : Bool) → eqb (chosen t (c .setup .k) (f .mac)) b ≡ x → Told s t Frame received (acknowledged (c .setup) b (f .version) (choose x (joinedAs (ended c) t (f .kind) (f .mac) (f .session) (f .version)) (rested (ended c) (hearMac t b (f .mac)) 0 0)))
             go true e = lists-tells (not-false (isKind (f .kind)) (passed .1 .0)) (eqb-true _ b e)
             go false e = breaks-tells
 
-        by-room : (x : Bool) → Told s t Frame received (choose x (refused c t NoRoom) (acknowledged (c .setup) b (outcome c t b f)))
+        by-room : (x : Bool) → Told s t Frame received (choose x (refused c t NoRoom) (acknowledged (c .setup) b (f .version) (outcome c t b f)))
         by-room true = refused-tells s c t Frame received g NoRoom
-        by-room false = by-rules Ends (joinRules (ended c) t (f .kind) (f .mac)) (refused (ended c) t) (joinedAs (ended c) t (f .kind) (f .mac) (f .session)) (each refuses (joinRules (ended c) t (f .kind) (f .mac))) joins
+        by-room false = by-rules Ends (joinRules (ended c) t (f .kind) (f .mac) (f .version)) (refused (ended c) t) (joinedAs (ended c) t (f .kind) (f .mac) (f .session) (f .version)) (each refuses (joinRules (ended c) t (f .kind) (f .mac) (f .version))) joins
 
 -- each part, by what the frame is to it
 
 module _ (s : Seen) (c : Coordinator) (t : List Node) (h : fits c t ≡ true) (g : Agrees s c t) (received : List ℕ) (p : ℕ) where
   -- a discovery's response: who answered is remembered, or the exchange breaks off
-  answered-tells : s .wait ≡ 5 → Told s t Frame received (answered c t (discovered (payload received)))
+  answered-tells : s .wait ≡ 5 → Told s t Frame received (answered c t (discovered (headerOf received .packet) (payload received)))
   unfolding choose
-  answered-tells e = go (ltb 0 (joinFound c t (discovered (payload received)) .joined)) (joinFound c t (discovered (payload received)) .joined)
+  answered-tells e = go (ltb 0 (joinFound c t (discovered (headerOf received .packet) (payload received)) .joined)) (joinFound c t (discovered (headerOf received .packet) (payload received)) .joined)
     where
       unheard : (a : After) (q : ℕ) → heardThere received a s q ≡ false
       unheard a q = rw e refl
 
-      go : (x : Bool) (j : ℕ) → Told s t Frame received (choose x (accepted (finding c (discovered (payload received)) j) t rests []) (accepted (ended c) t rests []))
-      go true j = silent-tells s c t h g received (rw e refl) refl refl refl (unheard (accepted (finding c (discovered (payload received)) j) t rests [])) (rw (phase-back (seeking j IdentifyDue), e) refl)
+      go : (x : Bool) (j : ℕ) → Told s t Frame received (choose x (accepted (finding c (discovered (headerOf received .packet) (payload received)) j) t rests []) (accepted (ended c) t rests []))
+      go true j = silent-tells s c t h g received (rw e refl) refl refl refl (unheard (accepted (finding c (discovered (headerOf received .packet) (payload received)) j) t rests [])) (rw (phase-back (seeking j IdentifyDue), e) (refl, refl))
       go false j = silent-tells s c t h g received (rw e refl) refl refl refl (unheard (accepted (ended c) t rests [])) (rw (phase-back resting) tt)
 
   module _ (here : Position (c .setup .k) p) (from : headerOf received .source ≡ address (c .setup) p) (room : ℕ) where
     -- in identify: an ACK, or the ID of who has the address
-    identify-tells : s .wait ≡ 6 → s .found ≡ c .found → (m : ℕ) (acked : Bool) → Told s t Frame received (repliedAs (heardInIdentify m (payload received) acked) p c t (payload received) room)
+    identify-tells : s .wait ≡ 6 → s .found ≡ c .found → (m : ℕ) (acked : Bool) → Told s t Frame received (repliedAs (heardInIdentify m (payload received) acked) p c t (headerOf received .packet) (payload received) room)
     unfolding choose
-    identify-tells e found m acked = identify-replied (λ x. Told s t Frame received (repliedAs x p c t (payload received) room)) (refused-tells s c t Frame received g UnexpectedType) m (payload received) acked (λ _ _ _ _. hears-tells s c t h g received (rw e refl) p here from (rw e refl) (identified (payload received)) who refl refl refl refl (rw (phase-back (seeking p Present), e) ((refl, refl), found))) (λ _ _. settled-tells s c t h g received (rw e refl) p here from (rw e refl) (identified (payload received)) who room)
+    identify-tells e found m acked = identify-replied (λ x. Told s t Frame received (repliedAs x p c t (headerOf received .packet) (payload received) room)) (refused-tells s c t Frame received g UnexpectedType) m (payload received) acked (λ _ _ _ _. hears-tells s c t h g received (rw e refl) p here from (rw e refl) (identified (c .found .version) (payload received)) who refl refl refl refl (rw (phase-back (seeking p Present), e) ((refl, refl), found))) (λ _ _. settled-tells s c t h g received (rw e refl) p here from (rw e refl) (identified (c .found .version) (payload received)) who room)
       where
-        who : teller received s ≡ identified (payload received)
-        who = rw e refl
+        who : teller received s ≡ identified (c .found .version) (payload received)
+        who = rw (e, found) refl
 
     -- in assign: the echo of what was assigned
-    assign-tells : s .wait ≡ 7 → s .found ≡ c .found → (m : ℕ) (same : Bool) → Told s t Frame received (repliedAs (heardInAssign m same) p c t (payload received) room)
+    assign-tells : s .wait ≡ 7 → s .found ≡ c .found → (m : ℕ) (same : Bool) → Told s t Frame received (repliedAs (heardInAssign m same) p c t (headerOf received .packet) (payload received) room)
     unfolding choose
-    assign-tells e found m same = assign-replied (λ x. Told s t Frame received (repliedAs x p c t (payload received) room)) (refused-tells s c t Frame received g UnexpectedType) m same (refused-tells s c t Frame received g BadEcho) (λ _ _. settled-tells s c t h g received (rw e refl) p here from (rw e refl) (c .found) (rw (e, found) refl) room)
+    assign-tells e found m same = assign-replied (λ x. Told s t Frame received (repliedAs x p c t (headerOf received .packet) (payload received) room)) (refused-tells s c t Frame received g UnexpectedType) m same (refused-tells s c t Frame received g BadEcho) (λ _ _. settled-tells s c t h g received (rw e refl) p here from (rw e refl) (c .found) (rw (e, found) refl) room)
 
   -- a frame from the source that the part awaits
   pub sought-tells : (part : Part) → phaseOf (c .stand) ≡ Seeking p part → awaits (Seeking p part) (c .setup) (headerOf received .source) ≡ true → (room : ℕ) → Told s t Frame received (soughtIn part p c t (headerOf received) (payload received) room)
-  sought-tells Search e from room = search-replied (λ x. Told s t Frame received (repliedAs x p c t (payload received) room)) (refused-tells s c t Frame received g UnexpectedType) (headerOf received .message) (payload received) (λ _ _. answered-tells ((rw e at (g .wait)) .0))
+  sought-tells Search e from room = search-replied (λ x. Told s t Frame received (repliedAs x p c t (headerOf received .packet) (payload received) room)) (refused-tells s c t Frame received g UnexpectedType) (headerOf received .message) (payload received) (λ _ _. answered-tells ((rw e at (g .wait)) .0))
   sought-tells IdentifyDue e from room = absurd (false≢true from)
   sought-tells Identify e from room = identify-tells (fits-stake c t h e .0) (eqb-true _ _ from) room ((rw e at (g .wait)) .0 .0) ((rw e at (g .wait)) .1) (headerOf received .message) false
   sought-tells Present e from room = identify-tells (fits-stake c t h e .0) (eqb-true _ _ from) room ((rw e at (g .wait)) .0 .0) ((rw e at (g .wait)) .1) (headerOf received .message) true

@@ -55,10 +55,10 @@ module _ (s : Seen) (c : Coordinator) (t : List Node) (h : fits c t ≡ true) (g
   seek-tells : (p : ℕ) (part : Part) → phaseOf (c .stand) ≡ Seeking p part → Told s t Turn [] (sent (dueSeek part c t p))
   unfolding choose
   seek-tells p Search e = own-tells
-  seek-tells p IdentifyDue e = plain-tells (dueIdentify c t p) refl refl (rw (phase-back (seeking p Identify)) ((refl, refl), (rw e at (g .wait))))
+  seek-tells p IdentifyDue e = plain-tells (dueIdentify c t p) refl refl (rw (phase-back (seeking p Identify)) ((refl, refl), (rw e at (g .wait)) .0))
   seek-tells p Identify e = own-tells
   seek-tells p Present e = own-tells
-  seek-tells p AssignDue e = plain-tells (dueAssign c t p) refl refl (rw (phase-back (seeking p Assign)) ((refl, refl), (rw e at (g .wait))))
+  seek-tells p AssignDue e = plain-tells (dueAssign c t p) refl refl (rw (phase-back (seeking p Assign)) ((refl, refl), (rw e at (g .wait)) .0))
   seek-tells p Assign e = own-tells
 
   value : (p : Phase) → phaseOf (c .stand) ≡ p → Told s t Turn [] (sent (dueIn p c t))

@@ -38,13 +38,13 @@ use Rattle.series.specs.Observed.{Who, recorded, Seen, changed, sawEvent}
 abbrev pub Seeks : ℕ → Seen → Type 0
 Seeks kind s = (s .wait ≡ kind) × (s .awaited ≡ 0)
 
--- in the exchange by which a board joins the wait is its part's, and from the discovery's response on who answered is what was discovered
+-- in the exchange by which a board joins the wait is its part's, no message to a board is waited for, and from the discovery's response on who answered is what was discovered
 abbrev pub InPart : Seen → Found → Part → Type 0
 InPart s f Search = Seeks 5 s
-InPart s f IdentifyDue = s .found ≡ f
+InPart s f IdentifyDue = (s .found ≡ f) × (s .awaited ≡ 0)
 InPart s f Identify = (Seeks 6 s) × (s .found ≡ f)
 InPart s f Present = (Seeks 6 s) × (s .found ≡ f)
-InPart s f AssignDue = s .found ≡ f
+InPart s f AssignDue = (s .found ≡ f) × (s .awaited ≡ 0)
 InPart s f Assign = (Seeks 7 s) × (s .found ≡ f)
 
 -- in a wait for a board, that board and whether it was heard in it are those of the phase; outside of a wait nothing is asked
@@ -121,7 +121,7 @@ put-changes t b n from upTo el em = record { listed = each-is isListed el; misse
 
 -- a change that leaves each board where it was is none such
 alike-changes : {t u : List Node} (v : List Node) {b : ℕ} {l : Bool} {m : ℕ} {n : Who} → ((p : ℕ) → SameBoard (at v p) (at u p)) → Changes t u b l m n → Changes t v b l m n
-alike-changes v same g = record { listed = λ p. ap (λ (k : ℕ). not (eqb k 0)) (same p .kind) ∙ g .listed p; misses = λ p. same p .misses ∙ g .misses p; who = λ p. (λ i. record { kind = same p .kind i; mac = same p .mac i }) ∙ g .who p }
+alike-changes v same g = record { listed = λ p. ap (λ (k : ℕ). not (eqb k 0)) (same p .kind) ∙ g .listed p; misses = λ p. same p .misses ∙ g .misses p; who = λ p. (λ i. record { kind = same p .kind i; version = same p .version i; mac = same p .mac i }) ∙ g .who p }
 
 -- as owing the list to all does, and counting every index anew with it
 pub owe-changes : {t u : List Node} {b : ℕ} {l : Bool} {m : ℕ} {n : Who} → Changes t u b l m n → Changes t (oweAll u) b l m n

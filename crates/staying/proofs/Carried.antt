@@ -10,9 +10,9 @@ use Rattle.refusal.specs.declared.Refusal.{Refusal}
 use Rattle.frame.specs.Frame.{headerOf, payloadOf, frameOf}
 use Rattle.frame.proofs.RoundTrip.{reads-back-own}
 use Rattle.board.specs.declared.Node.{Node}
-use Rattle.board.specs.Table.{at}
+use Rattle.board.specs.Table.{at, listedAt}
 use Rattle.board.specs.Round.{nextListed}
-use Rattle.nodelist.specs.List.{nodeList}
+use Rattle.nodelist.specs.List.{listFor}
 use Rattle.message.specs.Message.{ownHeader}
 use Rattle.message.proofs.Messages.{list-small}
 use Rattle.coordinator.specs.declared.Coordinator.{Coordinator}
@@ -25,17 +25,19 @@ use Rattle.steps.specs.After.{After, refused}
 use Rattle.steps.specs.Turn.{owedTo, dueList, dueOffer, dueOwn, dueSeek, dueIn, turnRules, sent, turnIn, turnOf}
 use Rattle.series.specs.Series.{waitedFor, waitsIn}
 use Rattle.series.specs.StoredIndex.{carriesIndex}
+use Rattle.lasting.proofs.Turn.{owed-listed}
 use Rattle.lasting.proofs.Taken.{no-wait, by-refusals, by-choice}
 
 module _ (c : Coordinator) (t : List Node) where
-  -- what goes out is the list of these records, or carries the index that is stored in them, where the answer says so
+  -- what goes out is the list of these records, to a board of theirs and in the form of its version, or carries the index that is stored in them, where the answer says so
   pub record Carries (a : After) : Type 0 where
-    pub list : waitsIn (a .says) ≡ 2 → payloadOf (c .setup .subnet) (a .bytes) ≡ nodeList (c .setup .internal) t
+    pub list : waitsIn (a .says) ≡ 2 → payloadOf (headerOf (a .bytes) .subnet) (a .bytes) ≡ listFor (at t (waitedFor (a .says)) .version) (c .setup .internal) t
+    pub board : waitsIn (a .says) ≡ 2 → listedAt t (waitedFor (a .says)) ≡ true
     pub index : carriesIndex (a .says) ≡ true → headerOf (a .bytes) .parameter2 ≡ at t (waitedFor (a .says)) .index
 
   -- what is no list has none; what is neither carries no index
   unlisted : (a : After) → (waitsIn (a .says) ≡ 2 → ⊥) → (carriesIndex (a .says) ≡ true → headerOf (a .bytes) .parameter2 ≡ at t (waitedFor (a .says)) .index) → Carries a
-  unlisted a n index = record { list = λ e. absurd (n e); index = index }
+  unlisted a n index = record { list = λ e. absurd (n e); board = λ e. absurd (n e); index = index }
 
   other-carries : (a : After) → (waitsIn (a .says) ≡ 2 → ⊥) → carriesIndex (a .says) ≡ false → Carries a
   other-carries a n e = unlisted a n (λ f. absurd (false≢true (sym e ∙ f)))
@@ -49,7 +51,7 @@ module _ (c : Coordinator) (t : List Node) where
   unfolding choose ownHeader frameOf
   own-carries =
       by-choice (λ d. Carries (sent d)) (ltb 0 (owedTo c t)) (dueList c t (owedTo c t)) (dueOffer c t (nextListed t (c .setup .k) (c .last)))
-      (λ _. record { list = λ _. reads-back-own _ (nodeList (c .setup .internal) t) (list-small (c .setup .internal) t) .1; index = λ _. refl })
+      (λ e. record { list = λ _. reads-back-own _ (listFor (at t (owedTo c t) .version) (c .setup .internal) t) (list-small (at t (owedTo c t) .version) (c .setup .internal) t) .1; board = λ _. owed-listed c t e; index = λ _. refl })
       (λ _. unlisted _ (λ e. omega (arith, e)) (λ _. refl))
 
   -- Get Node ID and Set Address

@@ -14,3 +14,4 @@ pub mod Acknowledged
 pub mod StoredIndex
 pub mod AsJoined
 pub mod Others
+pub mod OldBoards

@@ -3,10 +3,11 @@ use Prim.Native.Nat.{ℕ}
 use mathlib.Core.Path.{_≡_, refl, sym, ap, _∙_}
 use mathlib.Core.Bool.{Bool, true, false, false≢true}
 use mathlib.Core.List.{List, [], _∷_, _++_}
+use lib.Dec.{eqb}
 use borrow.Author.Tests.{eqb-true, not-true}
 use Rattle.ground.specs.Choose.{choose}
-use Rattle.ground.proofs.Choices.{choose-no, and-left, and-right, not-no, never}
-use Rattle.refusal.specs.Refusal.{Told, refuses, gives}
+use Rattle.ground.proofs.Choices.{choose-no, and-left, and-right, not-right, not-no, neither, never}
+use Rattle.refusal.specs.Refusal.{Told, refuses, gives, ruled}
 use Rattle.refusal.specs.declared.Refusal.the-variants.{OtherSubnet}
 use Rattle.refusal.proofs.Numbers.{not-zero}
 use Rattle.refusal.proofs.Rules.{Passed, stopped, unrefused, ruled-through}
@@ -14,10 +15,11 @@ use Rattle.frame.specs.Frame.{fields, headerOf, lengthByte, takesSubnet, readRu
 use Rattle.frame.proofs.Told.{passed-read, read-whole}
 use Rattle.frame.proofs.Subnets.{other-exactly}
 use Rattle.setup.specs.declared.Setup.{Setup}
+use Rattle.setup.specs.Setup.{oldSubnet}
 use Rattle.steps.specs.declared.Event.{Event}
 use Rattle.steps.specs.declared.Event.the-variants.{Join, Turn, Frame, Quiet, Discover}
 use Rattle.steps.specs.After.{After, refused}
-use Rattle.steps.specs.Receive.{payload, takenIn, listenRules, receiveIn, receiveOf}
+use Rattle.steps.specs.Receive.{payload, takenIn, hearsOld, readIn, listenRules, receiveIn, receiveOf}
 use Rattle.coordinator.specs.Phase.{phaseOf}
 use Rattle.steps.specs.Step.{stepOf}
 use Rattle.series.specs.Series.{Input, World, left, after, isAccepted}
@@ -30,7 +32,11 @@ use Rattle.lasting.proofs.Series.{lasting}
 
 -- the reader does not take such bytes
 others-subnet : (s : Setup) (i : Input) → isOthers s i ≡ true → takesSubnet (s .subnet) (headerOf (i .received) .subnet) ≡ false
-others-subnet s i h = not-true _ (and-right (isFrame (i .event)) _ h)
+others-subnet s i h = neither (takesSubnet (s .subnet) (headerOf (i .received) .subnet)) _ (not-true _ (and-right (isFrame (i .event)) _ h)) .0
+
+-- and they are not of the subnet of 1.0 boards
+others-old : (s : Setup) (i : Input) → isOthers s i ≡ true → eqb (headerOf (i .received) .subnet) oldSubnet ≡ false
+others-old s i h = neither (takesSubnet (s .subnet) (headerOf (i .received) .subnet)) _ (not-true _ (and-right (isFrame (i .event)) _ h)) .1
 
 others-stopped : (w : World) (i : Input) → isOthers (w .coordinator .setup) i ≡ true → Passed (readRules (w .coordinator .setup .subnet) (i .received)) → ⊥
 others-stopped w i h p = false≢true (sym (others-subnet (w .coordinator .setup) i h) ∙ passed-read _ _ p .taken)
@@ -41,22 +47,26 @@ unfolding reading
 unaccepted subnet b h = never _ (λ e. h (unrefused (λ (t : Told). isAccepted t ≡ true) (readRules subnet b) refuses _ (λ q a. not-zero q (eqb-true _ _ a)) e))
 
 module _ (w : World) (fit : isFit w ≡ true) where
-  -- bytes that the reader refuses get its refusal: 22 comes first, and the panel is fit
-  unread : (b : List ℕ) (room : ℕ) → (Passed (readRules (w .coordinator .setup .subnet) b) → ⊥) → receiveOf (w .coordinator) (w .nodes) b room ≡ onlySays (reading (w .coordinator .setup .subnet) b) w
+  abbrev ourSubnet : ℕ
+  ourSubnet = w .coordinator .setup .subnet
+
+  -- bytes that are read in our subnet and that the reader refuses get its refusal: 22 comes first, and the panel is fit
+  pub unread : (b : List ℕ) (room : ℕ) → readIn (phaseOf (w .coordinator .stand)) (w .coordinator) (w .nodes) b ≡ ourSubnet → (Passed (readRules ourSubnet b) → ⊥) → receiveOf (w .coordinator) (w .nodes) b room ≡ onlySays (reading ourSubnet b) w
   unfolding receiveIn reading
-  unread b room h =
+  unread b room same h =
       sym (choose-no _ _ _ _ (not-no _ fit) refl)
-      ∙ stopped (readRules (w .coordinator .setup .subnet) b) (listenRules (phaseOf (w .coordinator .stand)) (w .coordinator) (headerOf b)) (refused (w .coordinator) (w .nodes)) (takenIn (phaseOf (w .coordinator .stand)) (w .coordinator) (w .nodes) (headerOf b) (payload b) room) (onlySays (gives (fields (headerOf b) ++ lengthByte b ∷ [])) w) h
-      ∙ sym (ruled-through (λ (says : Told). onlySays says w) (readRules (w .coordinator .setup .subnet) b) refuses _)
+      ∙ ap (λ (n : ℕ). ruled (readRules n b ++ listenRules (phaseOf (w .coordinator .stand)) (w .coordinator) (headerOf b)) (refused (w .coordinator) (w .nodes)) (takenIn (phaseOf (w .coordinator .stand)) (w .coordinator) (w .nodes) (headerOf b) (payload b) room)) same
+      ∙ stopped (readRules ourSubnet b) (listenRules (phaseOf (w .coordinator .stand)) (w .coordinator) (headerOf b)) (refused (w .coordinator) (w .nodes)) (takenIn (phaseOf (w .coordinator .stand)) (w .coordinator) (w .nodes) (headerOf b) (payload b) room) (onlySays (gives (fields (headerOf b) ++ lengthByte b ∷ [])) w) h
+      ∙ sym (ruled-through (λ (says : Told). onlySays says w) (readRules ourSubnet b) refuses _)
 
   -- and so do those of another system
   others-refused : (i : Input) → isOthers (w .coordinator .setup) i ≡ true → ours .step w i ≡ onlySays (reading (w .coordinator .setup .subnet) (i .received)) w
   others-refused i h = go (i .event) (and-left (isFrame (i .event)) _ h)
     where
       go : (e : Event) → isFrame e ≡ true → stepOf (w .coordinator) (w .nodes) e (i .received) (i .room) ≡ onlySays (reading (w .coordinator .setup .subnet) (i .received)) w
-      go (Join kind mac session) n = absurd (false≢true n)
+      go (Join kind mac session version) n = absurd (false≢true n)
       go Turn n = absurd (false≢true n)
-      go Frame n = unread (i .received) (i .room) (others-stopped w i h)
+      go Frame n = unread (i .received) (i .room) (sym (choose-no _ _ _ _ (not-right (hearsOld (phaseOf (w .coordinator .stand)) (w .coordinator) (w .nodes)) _ (others-old (w .coordinator .setup) i h)) refl)) (others-stopped w i h)
       go Quiet n = absurd (false≢true n)
       go Discover n = absurd (false≢true n)
 

@@ -25,7 +25,7 @@ use Rattle.staying.proofs.AfterDiscover.{discover-tells}
 
 -- any event
 event-tells : (s : Seen) (c : Coordinator) (t : List Node) → fits c t ≡ true → Agrees s c t → (event : Event) (b : List ℕ) (room : ℕ) → Told s t event b (stepOf c t event b room)
-event-tells s c t h g (Join kind mac session) b room = join-tells s c t h g kind mac session
+event-tells s c t h g (Join kind mac session version) b room = join-tells s c t h g kind mac session version
 event-tells s c t h g Turn b room = turn-tells s c t h g room
 event-tells s c t h g Frame b room = frame-tells s c t h g b room
 event-tells s c t h g Quiet b room = quiet-tells s c t h g

@@ -27,9 +27,9 @@ refusal-silent : (c : Coordinator) (t : List Node) (r : Refusal) → Silent (ref
 unfolding Silent
 refusal-silent c t r = refl
 
-pub join-silent : (c : Coordinator) (t : List Node) (kind mac session : ℕ) → joinOf c t kind mac session .bytes ≡ []
+pub join-silent : (c : Coordinator) (t : List Node) (kind mac session version : ℕ) → joinOf c t kind mac session version .bytes ≡ []
 unfolding joinOf Silent
-join-silent c t kind mac session = by-rules Silent (joinRules c t kind mac) (refused c t) _ (each (refusal-silent c t) (joinRules c t kind mac)) (λ h. refl)
+join-silent c t kind mac session version = by-rules Silent (joinRules c t kind mac version) (refused c t) _ (each (refusal-silent c t) (joinRules c t kind mac version)) (λ h. refl)
 
 silent-choice : (b : Bool) (x y : After) → Silent x → Silent y → Silent (choose b x y)
 unfolding choose

@@ -29,7 +29,7 @@ use Rattle.change.proofs.Making.{makes-refusal}
 
 pub step-unfit : (c : Coordinator) (t : List Node) (e : Event) (b : List ℕ) (room : ℕ) → fits c t ≡ false → stepOf c t e b room ≡ refused c t StateUnfit
 unfolding joinOf turnIn receiveIn quietIn discoverOf choose
-step-unfit c t (Join kind mac session) b room h = rw h refl
+step-unfit c t (Join kind mac session version) b room h = rw h refl
 step-unfit c t Turn b room h = rw h refl
 step-unfit c t Frame b room h = rw h refl
 step-unfit c t Quiet b room h = rw h refl

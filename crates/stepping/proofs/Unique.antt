@@ -16,15 +16,15 @@ use Rattle.stepping.proofs.counted.Reads as counted
 
 -- what is passed to the decision beside the count of the records, and the same at its exit
 abbrev Given : Type 0
-Given = Seen × (Node × (RefT (List ℕ) × (RefT (List ℕ) × (RefT (List ℕ) × (RefT (List ℕ) × (Event × (RefT (List ℕ) × (RefT (List ℕ) × Unit {0}))))))))
+Given = Seen × (Node × (RefT (List ℕ) × (RefT (List ℕ) × (RefT (List ℕ) × (RefT (List ℕ) × (RefT (List ℕ) × (Event × (RefT (List ℕ) × (RefT (List ℕ) × Unit {0})))))))))
 
 abbrev received : Given → List ℕ
-received a = now (a .1 .1 .1 .1 .1 .1 .1 .0)
+received a = now (a .1 .1 .1 .1 .1 .1 .1 .1 .0)
 
 abbrev out : Given → List ℕ
-out a = now (a .1 .1 .1 .1 .1 .1 .1 .1 .0)
+out a = now (a .1 .1 .1 .1 .1 .1 .1 .1 .1 .0)
 
 pub unique-counted : (κs : _) (a s t : ℕ × Given) (r q : Change) → counted.Post κs a r s → counted.Post κs a q t → (c : Coordinator) (u : List Node) → length u ≡ a .0
-    → (a .0 ≡ 40 → Sees (a .1 .0) (now (a .1 .1 .1 .1 .0)) (now (a .1 .1 .1 .1 .1 .0)) (now (a .1 .1 .1 .1 .1 .1 .0)) c u × Beside (a .1 .1 .0) (now (a .1 .1 .1 .0)) c u)
+    → (a .0 ≡ 40 → Sees (a .1 .0) (now (a .1 .1 .1 .1 .0)) (now (a .1 .1 .1 .1 .1 .0)) (now (a .1 .1 .1 .1 .1 .1 .0)) (now (a .1 .1 .1 .1 .1 .1 .1 .0)) c u × Beside (a .1 .1 .0) (now (a .1 .1 .1 .0)) c u)
     → (applied r (received (a .1)) c u ≡ applied q (received (a .1)) c u) × (out (s .1) ≡ out (t .1))
 unique-counted κs a s t r q p p′ c u n sees = (p c u n sees .0 ∙ sym (p′ c u n sees .0), p c u n sees .1 ∙ sym (p′ c u n sees .1))

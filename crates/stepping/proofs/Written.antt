@@ -1,5 +1,5 @@
--- Demand 2 over every step: whatever a step writes reads back in our subnet as a good frame from 255, to a listed board's address in our subnet, or in the exchange by which a board joins
--- to the address at stake in our subnet, or to 0 in subnet 0.
+-- Demand 2 over every step: whatever a step writes reads back in its own subnet as a good frame from 255, to a listed board's address in the subnet of its version, or in the exchange by which a board joins
+-- to the address at stake in the subnet of what was discovered, or to 0 in subnet 0 (02, C-15).
 use Prim.Native.Nat.{ℕ}
 use native.Mathlib.Omega.{arith}
 use mathlib.Core.Path.{_≡_, refl, sym, ap, subst, _∙_}
@@ -13,7 +13,7 @@ use Rattle.frame.specs.Frame.{fields, headerOf, lengthByte}
 use Rattle.frame.proofs.Told.{read-values}
 use Rattle.board.specs.declared.Node.{Node}
 use Rattle.board.specs.Table.{at}
-use Rattle.setup.specs.Setup.{address}
+use Rattle.setup.specs.Setup.{address, subnetOf}
 use Rattle.setup.specs.Fitness.{FitSetup, Position}
 use Rattle.setup.proofs.Apart.{address-from, address-upTo}
 use Rattle.message.specs.Message.{everyKind}
@@ -39,16 +39,16 @@ use Rattle.turn.proofs.Transmissions.{Reaches, Goes, Broadcast, Asks, frame-bro
 use Rattle.receive.proofs.Heard.{Taken, Sought, taken-of, AckTo, Answers, AnswersIn, written-is-ack}
 use Rattle.stepping.proofs.Silent.{join-silent, quiet-silent}
 
--- nothing is written; or it goes to a listed board; or, in the exchange by which a board joins, to the address at stake, or to whoever has no address
+-- nothing is written; or it goes to a listed board; or, in the exchange by which a board joins, to the address at stake in the subnet of what was discovered, or to whoever has no address
 pub data Written (c : Coordinator) (t : List Node) (bytes : List ℕ) : Type 0 where
   nothing : bytes ≡ [] → Written c t bytes
   to-board : (board : ℕ) → Goes c t board bytes → Written c t bytes
-  to-stake : (position : ℕ) (part : Part) → phaseOf (c .stand) ≡ Seeking position part → Reaches c position bytes → Written c t bytes
+  to-stake : (position : ℕ) (part : Part) → phaseOf (c .stand) ≡ Seeking position part → Reaches c (c .found .version) position bytes → Written c t bytes
   to-all : Broadcast bytes → Written c t bytes
 
 -- an ACK to a position of the pool reaches it
-ack-reaches : (c : Coordinator) (t : List Node) (position source : ℕ) (bytes : List ℕ) → FitSetup (c .setup) → Position (c .setup .k) position → AckTo c t position source bytes → Reaches c position bytes
-ack-reaches c t position source bytes fit here ack =
+ack-reaches : (c : Coordinator) (t : List Node) (position version source : ℕ) (bytes : List ℕ) → FitSetup (c .setup) → Position (c .setup .k) position → AckTo c t position version source bytes → Reaches c version position bytes
+ack-reaches c t position version source bytes fit here ack =
     record {
       good = ack .reads ∙ ap gives (sym are);
       destination = there;
@@ -58,8 +58,8 @@ ack-reaches c t position source bytes fit here ack =
       subnet = ap (λ (l : List ℕ). getD l 2 0) are;
     }
   where
-    are : fields (headerOf bytes) ++ lengthByte bytes ∷ [] ≡ source ∷ 255 ∷ c .setup .subnet ∷ 0 ∷ 0 ∷ at t position .index ∷ 165 ∷ 0 ∷ 128 ∷ 17 ∷ []
-    are = read-values (c .setup .subnet) bytes _ (ack .reads)
+    are : fields (headerOf bytes) ++ lengthByte bytes ∷ [] ≡ source ∷ 255 ∷ subnetOf (c .setup) version ∷ 0 ∷ 0 ∷ at t position .index ∷ 165 ∷ 0 ∷ 128 ∷ 17 ∷ []
+    are = read-values (subnetOf (c .setup) version) bytes _ (ack .reads)
 
     there : headerOf bytes .destination ≡ address (c .setup) position
     there = ap (λ (l : List ℕ). getD l 0 0) are ∙ ack .sender
@@ -86,17 +86,17 @@ module _ (c : Coordinator) (t : List Node) where
     a = receiveOf c t b room
 
     -- the ACK to a frame that was taken goes to the board that was waited for
-    in-wait : (k : Taken c t b room) → Answers c t (k .board) (headerOf b .source) a → Written c t (a .bytes)
+    in-wait : (k : Taken c t b room) → Answers c t (k .board) (at t (k .board) .version) (headerOf b .source) a → Written c t (a .bytes)
     in-wait k (inl silent) = nothing (silent .0)
-    in-wait k (inr (ack, q)) = to-board (k .board) (record { listed = here .listed; reaches = ack-reaches c t (k .board) (headerOf b .source) (a .bytes) (fit-told c t (k .fit) .setup) (record { from = here .from; upTo = here .upTo }) ack })
+    in-wait k (inr (ack, q)) = to-board (k .board) (record { listed = here .listed; reaches = ack-reaches c t (k .board) (at t (k .board) .version) (headerOf b .source) (a .bytes) (fit-told c t (k .fit) .setup) (record { from = here .from; upTo = here .upTo }) ack })
       where
         here : Board c t (k .board)
         here = awaited c t (k .fit) (k .waited)
 
     -- and to one in the exchange by which a board joins, to the address at stake
-    in-exchange : (k : Sought c t b room) → Answers c (a .nodes) (k .position) (headerOf b .source) a → Written c t (a .bytes)
+    in-exchange : (k : Sought c t b room) → Answers c (a .nodes) (k .position) (c .found .version) (headerOf b .source) a → Written c t (a .bytes)
     in-exchange k (inl silent) = nothing (silent .0)
-    in-exchange k (inr (ack, q)) = to-stake (k .position) (k .part) (k .seeking) (ack-reaches c (a .nodes) (k .position) (headerOf b .source) (a .bytes) (fit-told c t (k .fit) .setup) (fits-stake c t (k .fit) (k .seeking) .0) ack)
+    in-exchange k (inr (ack, q)) = to-stake (k .position) (k .part) (k .seeking) (ack-reaches c (a .nodes) (k .position) (c .found .version) (headerOf b .source) (a .bytes) (fit-told c t (k .fit) .setup) (fits-stake c t (k .fit) (k .seeking) .0) ack)
 
     frame-written : Written c t (receiveOf c t b room .bytes)
     frame-written = go (plain-step c t Frame b room)
@@ -119,7 +119,7 @@ module _ (c : Coordinator) (t : List Node) where
 
   -- whatever a step writes goes where it should; what it says besides is in turn's `turn-says` and `turn-asks`
   pub step-written : (event : Event) (b : List ℕ) (room : ℕ) → Written c t (stepOf c t event b room .bytes)
-  step-written (Join kind mac session) b room = nothing (join-silent c t kind mac session)
+  step-written (Join kind mac session version) b room = nothing (join-silent c t kind mac session version)
   step-written Turn b room = turn-written room
   step-written Frame b room = frame-written b room
   step-written Quiet b room = nothing (quiet-silent c t)

@@ -20,17 +20,23 @@ fn deciding(
     payload: &[u8],
     kinds: &[u8; 40],
     indexes: &[u8; 40],
+    versions: &[u8; 40],
     macs: &[u64; 40],
     event: Event,
     received: &[u8],
     out: &mut [u8],
 ) -> Change
-    ensures { λ r. ⌜ Takes seen (Known node (now (payload .entry)) (now (kinds .entry)) (now (indexes .entry)) (now (macs .entry))) (now (received .entry)) (λ c t. stepOf c t event (now (received .entry)) (length (now (out .entry)))) r (now (out .entry)) (now (out .exit)) ⌝ }
+    ensures { λ r. ⌜ Takes seen (Known node (now (payload .entry)) (now (kinds .entry)) (now (indexes .entry)) (now (versions .entry)) (now (macs .entry))) (now (received .entry)) (λ c t. stepOf c t event (now (received .entry)) (length (now (out .entry)))) r (now (out .entry)) (now (out .exit)) ⌝ }
 {
     match event {
-        Event::Join { kind, mac, session } => { join::join(seen, kinds, macs, kind, mac, session) }
-        Event::Turn => turn::turn(seen, payload, kinds, indexes, out),
-        Event::Frame => receive::receive(seen, node, kinds, macs, received, out),
+        Event::Join {
+            kind,
+            mac,
+            session,
+            version,
+        } => join::join(seen, kinds, versions, macs, kind, mac, session, version),
+        Event::Turn => turn::turn(seen, payload, kinds, indexes, versions, out),
+        Event::Frame => receive::receive(seen, node, kinds, versions, macs, received, out),
         Event::Quiet => quiet::quiet(seen, node, kinds),
         Event::Discover => seek::discover(seen, kinds, out),
     }
@@ -44,14 +50,15 @@ fn decide(
     payload: &[u8],
     kinds: &[u8; 40],
     indexes: &[u8; 40],
+    versions: &[u8; 40],
     macs: &[u64; 40],
     event: Event,
     received: &[u8],
     out: &mut [u8],
 ) -> Change
-    ensures { λ r. ⌜ DecidesStep seen node (now (payload .entry)) (now (kinds .entry)) (now (indexes .entry)) (now (macs .entry)) event (now (received .entry)) r (now (out .entry)) (now (out .exit)) ⌝ }
+    ensures { λ r. ⌜ DecidesStep seen node (now (payload .entry)) (now (kinds .entry)) (now (indexes .entry)) (now (versions .entry)) (now (macs .entry)) event (now (received .entry)) r (now (out .entry)) (now (out .exit)) ⌝ }
 {
-    if !look::fits(seen, kinds, indexes, macs) {
+    if !look::fits(seen, kinds, indexes, versions, macs) {
         return change::refusing(Refusal::StateUnfit);
     }
     deciding(
@@ -60,6 +67,7 @@ fn decide(
         payload,
         kinds,
         indexes,
+        versions,
         macs,
         event,
         received,
@@ -75,12 +83,13 @@ pub fn counted(
     payload: &[u8; 240],
     kinds: &[u8; 40],
     indexes: &[u8; 40],
+    versions: &[u8; 40],
     macs: &[u64; 40],
     event: Event,
     received: &[u8],
     out: &mut [u8],
 ) -> Change
-    ensures { λ r. ⌜ DecidesCounted count seen node (now (payload .entry)) (now (kinds .entry)) (now (indexes .entry)) (now (macs .entry)) event (now (received .entry)) r (now (out .entry)) (now (out .exit)) ⌝ }
+    ensures { λ r. ⌜ DecidesCounted count seen node (now (payload .entry)) (now (kinds .entry)) (now (indexes .entry)) (now (versions .entry)) (now (macs .entry)) event (now (received .entry)) r (now (out .entry)) (now (out .exit)) ⌝ }
 {
     if count != RECORDS {
         return change::refusing(Refusal::StateUnfit);
@@ -91,6 +100,7 @@ pub fn counted(
         payload,
         kinds,
         indexes,
+        versions,
         macs,
         event,
         received,

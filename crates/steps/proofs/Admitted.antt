@@ -11,19 +11,19 @@ use Rattle.board.specs.declared.Node.{Node}
 use Rattle.coordinator.specs.declared.Coordinator.{Coordinator}
 use Rattle.coordinator.specs.declared.Phase.{Phase}
 use Rattle.coordinator.specs.Fit.{fits}
-use Rattle.steps.specs.Receive.{awaits, listenRules, receiveRules}
+use Rattle.steps.specs.Receive.{awaits, listenRules, receiveRules, readIn}
 
--- coordinator and records are fit, the bytes read well under our subnet, and their source is awaited
+-- coordinator and records are fit, the bytes read well in a subnet that is taken, and their source is awaited
 pub record Admitted (phase : Phase) (c : Coordinator) (t : List Node) (b : List ℕ) : Type 0 where
   pub fit : fits c t ≡ true
-  pub read : Read (c .setup .subnet) b
+  pub read : Read (readIn phase c t b) b
   pub awaited : awaits phase (c .setup) (headerOf b .source) ≡ true
 
 pub admitted : (phase : Phase) (c : Coordinator) (t : List Node) (b : List ℕ) → Passed (receiveRules phase c t b) → Admitted phase c t b
 admitted phase c t b ok =
-    let parts = passed-both (readRules (c .setup .subnet) b) (listenRules phase c (headerOf b)) (ok .1) in
+    let parts = passed-both (readRules (readIn phase c t b) b) (listenRules phase c (headerOf b)) (ok .1) in
     record {
       fit = not-false _ (ok .0);
-      read = passed-read (c .setup .subnet) b (parts .0);
+      read = passed-read (readIn phase c t b) b (parts .0);
       awaited = not-false _ (parts .1 .1 .1 .0);
     }

@@ -20,7 +20,7 @@ use Rattle.steps.specs.Join.{known, chosen}
 
 module _ (t : List Node) (k mac : ℕ) where
   -- what holds where the MAC is listed and where it is new
-  by-known {ℓ} : (P : Type ℓ) → (0 < known t k mac → P) → (known t k mac ≤ 0 → P) → P
+  pub by-known {ℓ} : (P : Type ℓ) → (0 < known t k mac → P) → (known t k mac ≤ 0 → P) → P
   by-known P f g = go (ltb 0 (known t k mac)) refl
     where
       go : (b : Bool) → ltb 0 (known t k mac) ≡ b → P
@@ -28,7 +28,7 @@ module _ (t : List Node) (k mac : ℕ) where
       go false e = g (ltb-false 0 (known t k mac) e)
 
   -- the position chosen is a listed MAC's own, else the lowest free one
-  chosen-known : 0 < known t k mac → chosen t k mac ≡ known t k mac
+  pub chosen-known : 0 < known t k mac → chosen t k mac ≡ known t k mac
   chosen-known l = sym (choose-yes (ltb 0 (known t k mac)) _ _ (lowestOf t Free k) (lt-ltb 0 (known t k mac) l) refl)
 
   pub chosen-new : known t k mac ≤ 0 → chosen t k mac ≡ lowestOf t Free k

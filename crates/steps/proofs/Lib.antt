@@ -1,4 +1,5 @@
 pub mod Chosen
+pub mod TooMany
 pub mod Admitted
 pub mod Shows
 pub mod Writes

@@ -76,12 +76,12 @@ module _ (c : Coordinator) (t : List Node) where
   plain-taken Answer exchange board requester h p room = plain-acking board room transmits _ refl
   plain-taken (Refused r) exchange board requester h p room = refusing r
 
-  plain-replied : (reply : Reply) (position : ℕ) (p : List ℕ) (room : ℕ) → Plain c t (repliedAs reply position c t p room)
-  plain-replied Discovered position p room = plain-choice _ _ _ (inl refl) (inl refl)
-  plain-replied AckCame position p room = inl refl
-  plain-replied Identified position p room = plain-choice (ltb room 29) _ _ (refusing NoRoom) (inl refl)
-  plain-replied Assigned position p room = plain-choice (ltb room 29) _ _ (refusing NoRoom) (inl refl)
-  plain-replied (NotTaken r) position p room = refusing r
+  plain-replied : (reply : Reply) (position packet : ℕ) (p : List ℕ) (room : ℕ) → Plain c t (repliedAs reply position c t packet p room)
+  plain-replied Discovered position packet p room = plain-choice _ _ _ (inl refl) (inl refl)
+  plain-replied AckCame position packet p room = inl refl
+  plain-replied Identified position packet p room = plain-choice (ltb room 29) _ _ (refusing NoRoom) (inl refl)
+  plain-replied Assigned position packet p room = plain-choice (ltb room 29) _ _ (refusing NoRoom) (inl refl)
+  plain-replied (NotTaken r) position packet p room = refusing r
 
   plain-seek : (part : Part) (position : ℕ) → Plain c t (quietInSeek part position c t)
   plain-seek Search position = inl refl
@@ -96,7 +96,7 @@ module _ (c : Coordinator) (t : List Node) where
   plain-in (Awaiting board exchange requester acked) h p room = plain-taken (heardIn exchange board acked c t h p) exchange board requester h p room
   plain-in (ForwardDue board requester) h p room = refusing NotAwaited
   plain-in (ReturnDue board) h p room = refusing NotAwaited
-  plain-in (Seeking position part) h p room = plain-replied (replyIn part position c h p) position p room
+  plain-in (Seeking position part) h p room = plain-replied (replyIn part position c h p) position (h .packet) p room
   plain-in Unknown h p room = refusing NotAwaited
 
   plain-quiet : (phase : Phase) → Plain c t (quietValue phase c t)
@@ -134,7 +134,7 @@ module _ (c : Coordinator) (t : List Node) where
 
   pub plain-step : (event : Event) (b : List ℕ) (room : ℕ) → Plain c t (stepOf c t event b room)
   unfolding joinOf turnIn receiveIn quietIn discoverOf
-  plain-step (Join kind mac session) b room = plain-ruled (joinRules c t kind mac) _ (inl refl)
+  plain-step (Join kind mac session version) b room = plain-ruled (joinRules c t kind mac version) _ (inl refl)
   plain-step Turn b room = plain-ruled (turnRules (phaseOf (c .stand)) c t room) _ (inl (plain-due (phaseOf (c .stand))))
   plain-step Frame b room = plain-ruled (receiveRules (phaseOf (c .stand)) c t b) _ (plain-in (phaseOf (c .stand)) (headerOf b) (payload b) room)
   plain-step Quiet b room = plain-ruled (quietRules (phaseOf (c .stand)) c t) _ (plain-quiet (phaseOf (c .stand)))

@@ -43,7 +43,7 @@ module _ (h : Header) (p : List ℕ) (small : length p ≤ 240) (c : Coordinator
       go false k l = (told-as (Written (12 + length p)) k ∙ ap (λ (n : ℕ). leaving (a .coordinator) (a .nodes) (a .says) n (a .joined) (a .dropped)) (sym (ap length frame ∙ long h p)), l ∙ ap (λ (b : List ℕ). laid b before) (sym frame))
 
 -- so it is of an ACK, whose frame has 29 bytes
-pub leaves-ack-written : (s : Setup) (nodes : List Node) (board : ℕ) (c : Coordinator) (t : List Node) (a : After) → a .bytes ≡ signedFrame s nodes board ackCode → (r : Stepped) (before after : List ℕ) (w : Writing) → Sends (signedHeader s board (at nodes board .index)) (signed s ackCode) w before after → shown r ≡ shownAs w c t a → Leaves (choose (ltb (length before) 29) (refused c t NoRoom) a) r before after
-leaves-ack-written s nodes board c t a frame r before after w sends e =
+pub leaves-ack-written : (s : Setup) (nodes : List Node) (board version : ℕ) (c : Coordinator) (t : List Node) (a : After) → a .bytes ≡ signedFrame s nodes board version ackCode → (r : Stepped) (before after : List ℕ) (w : Writing) → Sends (signedHeader s board version (at nodes board .index)) (signed s ackCode) w before after → shown r ≡ shownAs w c t a → Leaves (choose (ltb (length before) 29) (refused c t NoRoom) a) r before after
+leaves-ack-written s nodes board version c t a frame r before after w sends e =
     subst (λ (n : ℕ). Leaves (choose (ltb (length before) n) (refused c t NoRoom) a) r before after) (ap (λ (n : ℕ). 12 + n) (signed-size s ackCode))
-    (leaves-written (signedHeader s board (at nodes board .index)) (signed s ackCode) (signed-small s ackCode) c t a frame r before after w sends e)
+    (leaves-written (signedHeader s board version (at nodes board .index)) (signed s ackCode) (signed-small s ackCode) c t a frame r before after w sends e)

@@ -12,10 +12,11 @@ use Rattle.refusal.specs.declared.Refusal.the-variants.{StateUnfit, NotForUs, N
 use Rattle.frame.specs.declared.Header.{Header}
 use Rattle.frame.specs.Frame.{headerOf, lengthByte, readRules}
 use Rattle.board.specs.declared.Node.{Node}
+use Rattle.board.specs.Node.{isOld}
 use Rattle.board.specs.Table.{at, put}
 use Rattle.board.specs.Change.{heard, renewed, oweAll}
 use Rattle.setup.specs.declared.Setup.{Setup}
-use Rattle.setup.specs.Setup.{address}
+use Rattle.setup.specs.Setup.{oldSubnet, address}
 use Rattle.nodelist.specs.List.{sameList}
 use Rattle.routing.specs.Route.{routeOf}
 use Rattle.message.specs.Message.{signedFrame, ackCode}
@@ -25,6 +26,9 @@ use Rattle.accept.specs.Accept.{isAck, ackSession, heardAfterOffer, heardAfterL
 use Rattle.accept.specs.Replies.{replyType}
 use Rattle.coordinator.specs.declared.Coordinator.{Coordinator}
 use Rattle.coordinator.specs.declared.Kept.{Kept}
+use Rattle.coordinator.specs.declared.Found.{Found}
+use Rattle.coordinator.specs.declared.Part.{Part}
+use Rattle.coordinator.specs.declared.Part.the-variants.{Search, IdentifyDue, Identify, Present, AssignDue, Assign}
 use Rattle.coordinator.specs.declared.Exchange.{Exchange}
 use Rattle.coordinator.specs.declared.Exchange.the-variants.{Offer, List as Listing, Forward, Return}
 use Rattle.coordinator.specs.declared.Phase.{Phase}
@@ -77,7 +81,7 @@ isStray phase m message = replyType message && not (isSeeking phase) && not (ans
 -- what bytes are to the wait that is on: what it takes, or 7, 8, 9 (01, "Frame")
 abbrev pub heardIn : Exchange → ℕ → Bool → Coordinator → List Node → Header → List ℕ → Heard
 heardIn Offer board acked c t h p = heardAfterOffer (h .message) (h .method) (isAck (at t board .mac) p)
-heardIn Listing board acked c t h p = heardAfterList (h .message) (sameList (c .setup .internal) t p)
+heardIn Listing board acked c t h p = heardAfterList (h .message) (sameList (at t board .version) (c .setup .internal) t p)
 heardIn Forward board acked c t h p = heardAfterForward (h .message) (c .kept .message) (isAck (at t board .mac) p) acked
 heardIn Return board acked c t h p = heardAfterReturn (h .message) (isAck (at t board .mac) p)
 
@@ -102,7 +106,7 @@ keptOf h p =
 -- for a request or a response (0x94 too) the ACK due to the sender is written; 11 where it has no room (01, "Frame" and "Order")
 abbrev pub acking : Coordinator → List Node → ℕ → ℕ → Told → Coordinator → After
 acking c t board room says after =
-    choose (ltb room 29) (refused c t NoRoom) (accepted after (hear t board) says (signedFrame (c .setup) t board ackCode))
+    choose (ltb room 29) (refused c t NoRoom) (accepted after (hear t board) says (signedFrame (c .setup) t board (at t board .version) ackCode))
 
 -- where a request goes on: kept for its board, or discarded where there is none (01, "Frame")
 abbrev pub routed : Coordinator → Header → List ℕ → ℕ → ℕ → Coordinator
@@ -140,9 +144,31 @@ listenRules phase c h =
     (isStray phase (c .kept) (h .message), NotDiscovering) ∷
     (not (awaits phase (c .setup) (h .source)), NotAwaited) ∷ []
 
--- when bytes are refused before a wait looks at them: 22, then 1 to 4 and 24, then 5, 23 and 6; 7 to 9 and then 11 follow in `takenIn` (01, "Order"; 02, C-11 and C-14)
+-- a 1.0 board may answer in this part of the exchange by which a board joins: anyone in search, then what was discovered (02, C-15)
+abbrev pub seeksOld : Part → Found → Bool
+seeksOld Search f = true
+seeksOld IdentifyDue f = isOld (f .version)
+seeksOld Identify f = isOld (f .version)
+seeksOld Present f = isOld (f .version)
+seeksOld AssignDue f = isOld (f .version)
+seeksOld Assign f = isOld (f .version)
+
+-- the board awaited or discovered is a 1.0 board, or anyone is looked for (02, C-15)
+abbrev pub hearsOld : Phase → Coordinator → List Node → Bool
+hearsOld Resting c t = false
+hearsOld (Awaiting board exchange requester acked) c t = isOld (at t board .version)
+hearsOld (ForwardDue board requester) c t = false
+hearsOld (ReturnDue board) c t = false
+hearsOld (Seeking position part) c t = seeksOld part (c .found)
+hearsOld Unknown c t = false
+
+-- the subnet in which bytes are read: a 1.0 board's, 2, where they carry it and such a board may answer, else ours; 0 is always taken (02, C-15: "reading takes it too")
+abbrev pub readIn : Phase → Coordinator → List Node → List ℕ → ℕ
+readIn phase c t b = choose (hearsOld phase c t && eqb (headerOf b .subnet) oldSubnet) oldSubnet (c .setup .subnet)
+
+-- when bytes are refused before a wait looks at them: 22, then 1 to 4 and 24, then 5, 23 and 6; 7 to 9 and then 11 follow in `takenIn` (01, "Order"; 02, C-11, C-14 and C-15)
 abbrev pub receiveRules : Phase → Coordinator → List Node → List ℕ → List (Bool × Refusal)
-receiveRules phase c t b = (not (fits c t), StateUnfit) ∷ (readRules (c .setup .subnet) b ++ listenRules phase c (headerOf b))
+receiveRules phase c t b = (not (fits c t), StateUnfit) ∷ (readRules (readIn phase c t b) b ++ listenRules phase c (headerOf b))
 
 unfoldable pub receiveIn : Phase → Coordinator → List Node → List ℕ → ℕ → After
 receiveIn phase c t b room = ruled (receiveRules phase c t b) (refused c t) (takenIn phase c t (headerOf b) (payload b) room)

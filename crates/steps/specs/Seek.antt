@@ -1,5 +1,5 @@
 -- The exchange by which a board joins (02, C-11; 000, 11.11; 003, 6.6 to 6.8): what its parts are to a turn, a frame and a quiet.
-use Prim.Native.Nat.{ℕ}
+use Prim.Native.Nat.{ℕ, _/_, _%_}
 use mathlib.Core.Bool.{Bool, true, false}
 use mathlib.Core.List.{List, []}
 use lib.Dec.{eqb, ltb}
@@ -9,8 +9,9 @@ use Rattle.frame.specs.declared.Header.{Header}
 use Rattle.frame.specs.Frame.{byte}
 use Rattle.word.specs.Words.{wordAt}
 use Rattle.board.specs.declared.Node.{Node}
+use Rattle.board.specs.Node.{versionOf}
 use Rattle.setup.specs.declared.Setup.{Setup}
-use Rattle.setup.specs.Setup.{address}
+use Rattle.setup.specs.Setup.{address, subnetOf}
 use Rattle.message.specs.Message.{signedFrame, ackCode}
 use Rattle.accept.specs.declared.Reply.{Reply}
 use Rattle.accept.specs.declared.Reply.the-variants.{Discovered, Present as AckCame, Identified, Assigned, Refused}
@@ -44,17 +45,21 @@ sourceIn Present s position = address s position
 sourceIn AssignDue s position = address s position
 sourceIn Assign s position = address s position
 
--- who answered a discovery: node type, a reserved byte, MAC, session (003, Table 58)
-abbrev pub discovered : List ℕ → Found
-discovered p = record { kind = byte p 0; mac = wordAt p 2; session = wordAt p 10 }
+-- the version that a packet number tells: bit 5 is set by a 1.0 board (003, 4.3; 000, 11.11, 2.1.2.1; 02, C-15)
+abbrev pub toldVersion : ℕ → ℕ
+toldVersion packet = versionOf (packet / 32 % 2)
 
--- who has the address at stake: node type, MAC, session (003, Table 62)
-abbrev pub identified : List ℕ → Found
-identified p = record { kind = byte p 0; mac = macAfter p; session = wordAt p 9 }
+-- who answered a discovery: node type, a reserved byte, MAC, session (003, Table 58), and the version that the packet number tells
+abbrev pub discovered : ℕ → List ℕ → Found
+discovered packet p = record { kind = byte p 0; version = toldVersion packet; mac = wordAt p 2; session = wordAt p 10 }
+
+-- who has the address at stake: node type, MAC, session (003, Table 62); its version is what was discovered's, since it answered in that subnet (02, C-15)
+abbrev pub identified : ℕ → List ℕ → Found
+identified version p = record { kind = byte p 0; version = version; mac = macAfter p; session = wordAt p 9 }
 
 -- a join in the exchange is the join of 01, on the coordinator at rest (02, C-11)
 abbrev pub joinFound : Coordinator → List Node → Found → After
-joinFound c t f = joinOf (ended c) t (f .kind) (f .mac) (f .session)
+joinFound c t f = joinOf (ended c) t (f .kind) (f .mac) (f .session) (f .version)
 
 -- the discovery was answered: Get Node ID is due to the position that the join of it would take; where that would be refused the exchange breaks off (02, C-11; 000, 11.11, 2.1.3)
 abbrev pub answered : Coordinator → List Node → Found → After
@@ -71,14 +76,14 @@ abbrev pub outcome : Coordinator → List Node → ℕ → Found → After
 outcome c t position f =
     choose (eqb (joinFound c t f .joined) position) (joinFound c t f) (resting (ended c) (hearMac t position (f .mac)) 0 0)
 
--- the ACK to a response carries the index of the records that the step leaves (02, C-11)
-abbrev pub acknowledged : Setup → ℕ → After → After
-acknowledged s position a =
+-- the ACK to a response carries the index of the records that the step leaves, and goes to the subnet of the exchange's version (02, C-11 and C-15)
+abbrev pub acknowledged : Setup → ℕ → ℕ → After → After
+acknowledged s position version a =
     record {
       coordinator = a .coordinator;
       nodes = a .nodes;
       says = transmits;
-      bytes = signedFrame s (a .nodes) position ackCode;
+      bytes = signedFrame s (a .nodes) position version ackCode;
       joined = a .joined;
       dropped = 0;
     }
@@ -86,7 +91,7 @@ acknowledged s position a =
 -- a response that ends the exchange: its ACK is written either way; 11 where it has no room (02, C-11)
 abbrev pub settled : Coordinator → List Node → ℕ → Found → ℕ → After
 settled c t position f room =
-    choose (ltb room 29) (refused c t NoRoom) (acknowledged (c .setup) position (outcome c t position f))
+    choose (ltb room 29) (refused c t NoRoom) (acknowledged (c .setup) position (f .version) (outcome c t position f))
 
 -- what a frame is to the part that waits: what it takes, or 7, 8 (02, C-11)
 abbrev pub replyIn : Part → ℕ → Coordinator → Header → List ℕ → Reply
@@ -95,19 +100,19 @@ replyIn IdentifyDue position c h p = Refused NotAwaited
 replyIn Identify position c h p = heardInIdentify (h .message) p false
 replyIn Present position c h p = heardInIdentify (h .message) p true
 replyIn AssignDue position c h p = Refused NotAwaited
-replyIn Assign position c h p = heardInAssign (h .message) (isAssignment (address (c .setup) position) (c .setup .subnet) (c .found .mac) (c .found .session) p)
+replyIn Assign position c h p = heardInAssign (h .message) (isAssignment (address (c .setup) position) (subnetOf (c .setup) (c .found .version)) (c .found .mac) (c .found .session) p)
 
--- what each of them does (02, C-11)
-abbrev pub repliedAs : Reply → ℕ → Coordinator → List Node → List ℕ → ℕ → After
-repliedAs Discovered position c t p room = answered c t (discovered p)
-repliedAs AckCame position c t p room = present c t position (macAfter p)
-repliedAs Identified position c t p room = settled c t position (identified p) room
-repliedAs Assigned position c t p room = settled c t position (c .found) room
-repliedAs (Refused r) position c t p room = refused c t r
+-- what each of them does, with the packet number and payload received (02, C-11)
+abbrev pub repliedAs : Reply → ℕ → Coordinator → List Node → ℕ → List ℕ → ℕ → After
+repliedAs Discovered position c t packet p room = answered c t (discovered packet p)
+repliedAs AckCame position c t packet p room = present c t position (macAfter p)
+repliedAs Identified position c t packet p room = settled c t position (identified (c .found .version) p) room
+repliedAs Assigned position c t packet p room = settled c t position (c .found) room
+repliedAs (Refused r) position c t packet p room = refused c t r
 
 -- a frame in the exchange
 abbrev pub soughtIn : Part → ℕ → Coordinator → List Node → Header → List ℕ → ℕ → After
-soughtIn part position c t h p room = repliedAs (replyIn part position c h p) position c t p room
+soughtIn part position c t h p room = repliedAs (replyIn part position c h p) position c t (h .packet) p room
 
 -- quiet in the exchange is a miss for no board: with nothing accepted in identify the address is free, and Set Address is due; else the exchange breaks off (02, C-11; 000, 11.11, 2.1.5.2)
 abbrev pub quietInSeek : Part → ℕ → Coordinator → List Node → After

@@ -14,7 +14,7 @@ use Rattle.steps.specs.Discover.{discoverOf}
 
 -- the steps are join, turn, frame and quiet (01, "Steps"), and discover (02, C-11); received bytes and room stand beside the event
 abbrev pub stepOf : Coordinator → List Node → Event → List ℕ → ℕ → After
-stepOf c t (Join kind mac session) b room = joinOf c t kind mac session
+stepOf c t (Join kind mac session version) b room = joinOf c t kind mac session version
 stepOf c t Turn b room = turnOf c t room
 stepOf c t Frame b room = receiveOf c t b room
 stepOf c t Quiet b room = quietOf c t

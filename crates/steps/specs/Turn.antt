@@ -16,7 +16,7 @@ use Rattle.board.specs.Table.{at, put}
 use Rattle.board.specs.Wanted.{lowestOf, someListed}
 use Rattle.board.specs.Round.{nextListed}
 use Rattle.board.specs.Change.{unmarked}
-use Rattle.nodelist.specs.List.{nodeList}
+use Rattle.nodelist.specs.List.{listFor}
 use Rattle.message.specs.Message.{listHeader, signedHeader, identifyHeader, assignHeader, assignment, toBoard, signed, offerCode}
 use Rattle.coordinator.specs.declared.Coordinator.{Coordinator}
 use Rattle.coordinator.specs.declared.Kept.{Kept}
@@ -56,24 +56,24 @@ carriedHeader m parameter2 =
       packet = m .packet;
     }
 
--- a carried message to a board: destination the board, source 255, subnet ours (01, "Forward and return")
+-- a carried message to a board: destination the board, source 255, subnet its own (01, "Forward and return"; 02, C-15)
 abbrev pub dueCarried : Coordinator → List Node → ℕ → Exchange → ℕ → ℕ → Due
 dueCarried c t board exchange requester parameter2 =
     record {
       says = waits board exchange;
-      header = toBoard (c .setup) board (carriedHeader (c .kept) parameter2);
+      header = toBoard (c .setup) board (at t board .version) (carriedHeader (c .kept) parameter2);
       payload = take (c .kept .length) (c .kept .payload);
       coordinator = withPhase c (Awaiting board exchange requester false);
       nodes = t;
     }
 
--- the node list to a board, clearing its mark: type 0x14, packet number 0 (01, "Turn"; 003, 5.14 and 4.3)
+-- the node list to a board, in the form of its version, clearing its mark: type 0x14, packet number 0 (01, "Turn"; 003, 5.14 and 4.3; 02, C-15)
 abbrev pub dueList : Coordinator → List Node → ℕ → Due
 dueList c t board =
     record {
       says = waits board Listing;
-      header = listHeader (c .setup) board (at t board .index);
-      payload = nodeList (c .setup .internal) t;
+      header = listHeader (c .setup) board (at t board .version) (at t board .index);
+      payload = listFor (at t board .version) (c .setup .internal) t;
       coordinator = withPhase c (Awaiting board Listing 0 false);
       nodes = put t board (unmarked (at t board));
     }
@@ -83,7 +83,7 @@ abbrev pub dueOffer : Coordinator → List Node → ℕ → Due
 dueOffer c t board =
     record {
       says = waits board Offer;
-      header = signedHeader (c .setup) board (at t board .index);
+      header = signedHeader (c .setup) board (at t board .version) (at t board .index);
       payload = signed (c .setup) offerCode;
       coordinator = offered c board;
       nodes = t;
@@ -94,7 +94,7 @@ abbrev pub dueIdentify : Coordinator → List Node → ℕ → Due
 dueIdentify c t position =
     record {
       says = seeks position ToIdentify;
-      header = identifyHeader (c .setup) position (at t position .index);
+      header = identifyHeader (c .setup) position (c .found .version) (at t position .index);
       payload = [];
       coordinator = withPhase c (Seeking position Identify);
       nodes = t;
@@ -106,7 +106,7 @@ dueAssign c t position =
     record {
       says = seeks position ToAssign;
       header = assignHeader;
-      payload = assignment (c .setup) position (c .found .mac) (c .found .session);
+      payload = assignment (c .setup) position (c .found .version) (c .found .mac) (c .found .session);
       coordinator = withPhase c (Seeking position Assign);
       nodes = t;
     }

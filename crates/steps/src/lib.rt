@@ -11,7 +11,12 @@ ghost use Rattle.steps.specs.Seek.{isWaiting};
 // What happens to the panel: a board has joined, it is the panel's turn, bytes came in, nothing came in, boards without an
 // address are to be looked for.
 pub enum Event {
-    Join { kind: u8, mac: u64, session: u64 },
+    Join {
+        kind: u8,
+        mac: u64,
+        session: u64,
+        version: u8,
+    },
     Turn,
     Frame,
     Quiet,

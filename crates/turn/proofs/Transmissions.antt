@@ -1,4 +1,4 @@
--- What a turn sends: a good frame, from us, to a listed board's address in our subnet, or in the exchange by which a board joins to the address at stake or to all; and what it says in each exchange.
+-- What a turn sends: a good frame, from us, to a listed board's address in its subnet, or in the exchange by which a board joins to the address at stake or to all; and what it says in each exchange.
 use Prim.Native.Nat.{ℕ, _≤_, _<_}
 use native.Mathlib.Omega.{arith}
 use mathlib.Core.Path.{_≡_, refl, sym, ap, subst, _∙_}
@@ -24,10 +24,10 @@ use Rattle.board.specs.Wanted.{lowestOf, someListed, indexOf}
 use Rattle.board.specs.Round.{nextListed}
 use Rattle.board.proofs.LowestWanted.{lowest-wanted}
 use Rattle.board.proofs.NextListed.{next-nearest}
-use Rattle.setup.specs.Setup.{address}
+use Rattle.setup.specs.Setup.{address, subnetOf}
 use Rattle.setup.specs.Fitness.{Position, FitSetup}
 use Rattle.setup.proofs.Apart.{address-from, address-upTo}
-use Rattle.nodelist.specs.List.{nodeList}
+use Rattle.nodelist.specs.List.{listFor}
 use Rattle.message.specs.Message.{toBoard, ownHeader, signed, offerCode, broadcastHeader, assignment}
 use Rattle.message.proofs.Messages.{signed-small, list-small, assignment-small}
 use Rattle.coordinator.specs.declared.Coordinator.{Coordinator}
@@ -48,19 +48,19 @@ use Rattle.steps.specs.After.{After, refused, waits, seeks}
 use Rattle.steps.specs.Turn.{Due, dueCarried, dueList, dueOffer, dueIdentify, dueAssign, dueOwn, dueIn, isDue, owedTo, sent, turnRules, turnIn, turnOf}
 use Rattle.steps.proofs.Shows.{same-told}
 
--- bytes that go to a position of the pool: they read as a good frame in our subnet, to its address, from 255 (01, "Turn" and "Forward and return"; 02, C-11)
-pub record Reaches (c : Coordinator) (position : ℕ) (bytes : List ℕ) : Type 0 where
-  pub good : ReadsWell (c .setup .subnet) bytes
+-- bytes that go to a position of the pool, in the subnet of a version: they read as a good frame there, to its address, from 255 (01, "Turn" and "Forward and return"; 02, C-11 and C-15)
+pub record Reaches (c : Coordinator) (version position : ℕ) (bytes : List ℕ) : Type 0 where
+  pub good : ReadsWell (subnetOf (c .setup) version) bytes
   pub destination : headerOf bytes .destination ≡ address (c .setup) position
   pub from : 1 ≤ headerOf bytes .destination
   pub upTo : headerOf bytes .destination ≤ 254
   pub source : headerOf bytes .source ≡ 255
-  pub subnet : headerOf bytes .subnet ≡ c .setup .subnet
+  pub subnet : headerOf bytes .subnet ≡ subnetOf (c .setup) version
 
--- bytes that go to a board: it is listed at the position that they go to
+-- bytes that go to a board: it is listed at the position that they go to, in the subnet of its version (02, C-15)
 pub record Goes (c : Coordinator) (t : List Node) (board : ℕ) (bytes : List ℕ) : Type 0 where
   pub listed : listedAt t board ≡ true
-  pub reaches : Reaches c board bytes
+  pub reaches : Reaches c (at t board .version) board bytes
 
 -- bytes that go to whoever has no address yet: they read as a good frame in every subnet, to 0, from 255, in subnet 0 (02, C-11; 003, 6.6 and 6.7)
 pub record Broadcast (bytes : List ℕ) : Type 0 where
@@ -91,23 +91,23 @@ Own t board message packet payload bytes = Holds 165 message packet 0 0 (indexOf
 -- a forward carries what was kept with the index of the board that made the request, a return carries it with 0 (01, "Turn" and "Forward and return")
 abbrev pub Says : Coordinator → List Node → Exchange → ℕ → List ℕ → Type 0
 Says c t Offer b bytes = (b ≡ nextListed t (c .setup .k) (c .last)) × Own t b 0 128 (signed (c .setup) offerCode) bytes
-Says c t Listing b bytes = (b ≡ owedTo c t) × Own t b 20 0 (nodeList (c .setup .internal) t) bytes
+Says c t Listing b bytes = (b ≡ owedTo c t) × Own t b 20 0 (listFor (at t b .version) (c .setup .internal) t) bytes
 Says c t Forward b bytes = (q : ℕ) × (phaseOf (c .stand) ≡ ForwardDue b q) × Carries (c .kept) (indexOf t q) bytes
 Says c t Return b bytes = (phaseOf (c .stand) ≡ ReturnDue b) × Carries (c .kept) 0 bytes
 
 -- what the bytes of a turn say in the exchange by which a board joins: Get Node ID goes to the address at stake, without a payload; Set Address goes to all,
--- with that address, our subnet, and MAC and session of what was discovered; a discovery is no turn's (02, C-11; 003, Tables 59 and 61)
+-- with that address, and subnet, MAC and session of what was discovered; a discovery is no turn's (02, C-11; 003, Tables 59 and 61)
 abbrev pub Asks : Coordinator → List Node → Seeks → ℕ → List ℕ → Type 0
 Asks c t ToSearch p bytes = ⊥
-Asks c t ToIdentify p bytes = (phaseOf (c .stand) ≡ Seeking p IdentifyDue) × Reaches c p bytes × Own t p 123 0 [] bytes
-Asks c t ToAssign p bytes = (phaseOf (c .stand) ≡ Seeking p AssignDue) × Broadcast bytes × Holds 165 122 0 0 0 0 (assignment (c .setup) p (c .found .mac) (c .found .session)) bytes
+Asks c t ToIdentify p bytes = (phaseOf (c .stand) ≡ Seeking p IdentifyDue) × Reaches c (c .found .version) p bytes × Own t p 123 0 [] bytes
+Asks c t ToAssign p bytes = (phaseOf (c .stand) ≡ Seeking p AssignDue) × Broadcast bytes × Holds 165 122 0 0 0 0 (assignment (c .setup) p (c .found .version) (c .found .mac) (c .found .session)) bytes
 
 -- a frame of ours to a position of the pool reaches it
-pub frame-reaches : (c : Coordinator) (h : Header) (p : List ℕ) (position : ℕ) → FitSetup (c .setup) → Position (c .setup .k) position → length p ≤ 240 → h .destination ≡ address (c .setup) position → h .source ≡ 255 → h .subnet ≡ c .setup .subnet → Reaches c position (frameOf h p)
+pub frame-reaches : (c : Coordinator) (h : Header) (p : List ℕ) (version position : ℕ) → FitSetup (c .setup) → Position (c .setup .k) position → length p ≤ 240 → h .destination ≡ address (c .setup) position → h .source ≡ 255 → h .subnet ≡ subnetOf (c .setup) version → Reaches c version position (frameOf h p)
 unfolding frameOf
-frame-reaches c h p position fit here small destination source subnet =
+frame-reaches c h p version position fit here small destination source subnet =
     record {
-      good = reads-back h p small (c .setup .subnet) (rw subnet (takes-own (c .setup .subnet)));
+      good = reads-back h p small (subnetOf (c .setup) version) (rw subnet (takes-own (subnetOf (c .setup) version)));
       destination = destination;
       from = rw destination (address-from (c .setup) fit position here);
       upTo = rw destination (address-upTo (c .setup) fit position here);
@@ -199,7 +199,7 @@ module _ (c : Coordinator) (t : List Node) where
   record Headed (b : ℕ) (d : Due) : Type 0 where
     destination : d .header .destination ≡ address (c .setup) b
     source : d .header .source ≡ 255
-    subnet : d .header .subnet ≡ c .setup .subnet
+    subnet : d .header .subnet ≡ subnetOf (c .setup) (at t b .version)
 
   case-headed : {p : Phase} {b : ℕ} {e : Exchange} {d : Due} → ToBoard p b e d → Headed b d
   unfolding toBoard ownHeader
@@ -227,12 +227,12 @@ module _ (c : Coordinator) (t : List Node) where
     case-small : {p : Phase} {b : ℕ} {e : Exchange} {d : Due} → phaseOf (c .stand) ≡ p → ToBoard p b e d → length (d .payload) ≤ 240
     case-small e (returning b) = omega (arith, length-take (c .kept .length) (c .kept .payload), response-told (c .kept) (due-response c t fit e) .payload)
     case-small e (forwarding b q) = omega (arith, length-take (c .kept .length) (c .kept .payload), request-told (c .kept) (due-forward c t fit e .request) .payload)
-    case-small e (listing p l) = list-small (c .setup .internal) t
+    case-small e (listing p l) = list-small (at t (owedTo c t) .version) (c .setup .internal) t
     case-small e (offering p idle) = signed-small (c .setup) offerCode
 
     -- the frame of what is due to a board goes to it
     goes-due : {p : Phase} {b : ℕ} {e : Exchange} {d : Due} → (not (someListed t) && not (isDue p)) ≡ false → phaseOf (c .stand) ≡ p → ToBoard p b e d → Goes c t b (frameOf (d .header) (d .payload))
-    goes-due {p} {b} {e} {d} s q k = record { listed = there; reaches = frame-reaches c (d .header) (d .payload) b (fit-told c t fit .setup) position (case-small q k) (headed .destination) (headed .source) (headed .subnet) }
+    goes-due {p} {b} {e} {d} s q k = record { listed = there; reaches = frame-reaches c (d .header) (d .payload) (at t b .version) b (fit-told c t fit .setup) position (case-small q k) (headed .destination) (headed .source) (headed .subnet) }
       where
         there : listedAt t b ≡ true
         there = case-listed s q k
@@ -258,11 +258,11 @@ module _ (c : Coordinator) (t : List Node) where
     -- and that of what the exchange by which a board joins has due goes where it asks
     asks-due : {p : Phase} {q : ℕ} {s : Seeks} {d : Due} → phaseOf (c .stand) ≡ p → ToStake p q s d → Asks c t s q (frameOf (d .header) (d .payload))
     unfolding ownHeader broadcastHeader
-    asks-due e (identifying q) = (e, frame-reaches c _ [] q (fit-told c t fit .setup) (fits-stake c t fit e .0) (omega arith) refl refl refl, counted q (holds-back _ _ (omega arith)))
+    asks-due e (identifying q) = (e, frame-reaches c _ [] (c .found .version) q (fit-told c t fit .setup) (fits-stake c t fit e .0) (omega arith) refl refl refl, counted q (holds-back _ _ (omega arith)))
     asks-due e (assigning q) = (e, frame-broadcast 122 0 _ small, broadcast-holds 122 0 _ small)
       where
-        small : length (assignment (c .setup) q (c .found .mac) (c .found .session)) ≤ 240
-        small = assignment-small (c .setup) q (c .found .mac) (c .found .session)
+        small : length (assignment (c .setup) q (c .found .version) (c .found .mac) (c .found .session)) ≤ 240
+        small = assignment-small (c .setup) q (c .found .version) (c .found .mac) (c .found .session)
 
   -- a turn that is not refused passed every rule, and sends what is due
   module _ (room : ℕ) where

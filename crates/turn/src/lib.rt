@@ -21,7 +21,7 @@ ghost use Rattle.message.specs.Message.{toBoard, Sends};
 ghost use Rattle.coordinator.specs.declared.Exchange.the-variants.{Forward};
 ghost use Rattle.coordinator.specs.Phase.{phaseOf};
 ghost use Rattle.coordinator.specs.State.{keptAs};
-ghost use Rattle.look.specs.Seen.{OfTypes, OfIndexes};
+ghost use Rattle.look.specs.Seen.{OfTypes, OfIndexes, OfVersions};
 ghost use Rattle.steps.specs.Seek.{isWaiting};
 ghost use Rattle.steps.specs.Turn.{carriedHeader, dueCarried, dueList, dueOffer, dueOwn, dueIdentify, dueAssign, dueSeek, dueIn, isAwaiting, isDue, turnOf};
 ghost use Rattle.change.specs.declared.Move.the-variants.{To};
@@ -59,10 +59,11 @@ fn write_carried(
     payload: &[u8],
     setup: Setup,
     board: usize,
+    version: u8,
     parameter2: u8,
     out: &mut [u8],
 ) -> Writing
-    ensures { λ r. ⌜ Sends (toBoard setup board (carriedHeader (keptAs head (now (payload .entry))) parameter2)) (take (head .length) (now (payload .entry))) r (now (out .entry)) (now (out .exit)) ⌝ }
+    ensures { λ r. ⌜ Sends (toBoard setup board version (carriedHeader (keptAs head (now (payload .entry))) parameter2)) (take (head .length) (now (payload .entry))) r (now (out .entry)) (now (out .exit)) ⌝ }
 {
     let header = Header {
         destination: 0,
@@ -76,23 +77,33 @@ fn write_carried(
         packet: head.packet,
     };
     let n = ground::least(head.length, payload.len());
-    message::write_to(setup, board, header, &payload[..n], out)
+    message::write_to(setup, board, version, header, &payload[..n], out)
 }
 
 // Sends the message that is kept to a board.
 fn send_carried(
     seen: Seen,
     payload: &[u8],
+    versions: &[u8; 40],
     board: usize,
     exchange: Exchange,
     requester: usize,
     parameter2: u8,
     out: &mut [u8],
 ) -> Change
-    ensures { λ r. ⌜ Decides seen (OfKept (now (payload .entry))) (λ c t. sending (dueCarried c t board exchange requester parameter2) c t (length (now (out .entry)))) r (now (out .entry)) (now (out .exit)) ⌝ }
+    ensures { λ r. ⌜ Decides seen (λ c t. OfKept (now (payload .entry)) c t × OfVersions (now (versions .entry)) c t) (λ c t. sending (dueCarried c t board exchange requester parameter2) c t (length (now (out .entry)))) r (now (out .entry)) (now (out .exit)) ⌝ }
 {
     let state = seen.state;
-    let writing = write_carried(state.head, payload, seen.setup, board, parameter2, out);
+    let version = board::byte_at(versions, board);
+    let writing = write_carried(
+        state.head,
+        payload,
+        seen.setup,
+        board,
+        version,
+        parameter2,
+        out,
+    );
     let next = waiting(board, exchange, requester);
     let answer = Answer::Wait(board, exchange);
     sent(writing, next, 0, Edit::Nothing, answer)
@@ -103,16 +114,18 @@ fn send_forward(
     seen: Seen,
     payload: &[u8],
     indexes: &[u8; 40],
+    versions: &[u8; 40],
     board: usize,
     requester: usize,
     out: &mut [u8],
 ) -> Change
-    ensures { λ r. ⌜ Decides seen (λ c t. OfKept (now (payload .entry)) c t × OfIndexes (now (indexes .entry)) c t) (λ c t. sending (dueCarried c t board Forward requester (at t requester .index)) c t (length (now (out .entry)))) r (now (out .entry)) (now (out .exit)) ⌝ }
+    ensures { λ r. ⌜ Decides seen (λ c t. OfKept (now (payload .entry)) c t × OfIndexes (now (indexes .entry)) c t × OfVersions (now (versions .entry)) c t) (λ c t. sending (dueCarried c t board Forward requester (at t requester .index)) c t (length (now (out .entry)))) r (now (out .entry)) (now (out .exit)) ⌝ }
 {
-    let index = board::index_at(indexes, requester);
+    let index = board::byte_at(indexes, requester);
     send_carried(
         seen,
         payload,
+        versions,
         board,
         Exchange::Forward,
         requester,
@@ -126,40 +139,64 @@ fn send_list(
     seen: Seen,
     kinds: &[u8; 40],
     indexes: &[u8; 40],
+    versions: &[u8; 40],
     board: usize,
     out: &mut [u8],
 ) -> Change
-    ensures { λ r. ⌜ Decides seen (λ c t. OfTypes (now (kinds .entry)) c t × OfIndexes (now (indexes .entry)) c t) (λ c t. sending (dueList c t board) c t (length (now (out .entry)))) r (now (out .entry)) (now (out .exit)) ⌝ }
+    ensures { λ r. ⌜ Decides seen (λ c t. OfTypes (now (kinds .entry)) c t × OfIndexes (now (indexes .entry)) c t × OfVersions (now (versions .entry)) c t) (λ c t. sending (dueList c t board) c t (length (now (out .entry)))) r (now (out .entry)) (now (out .exit)) ⌝ }
 {
-    let index = board::index_at(indexes, board);
-    let writing = message::write_list(seen.setup, kinds, seen.top, board, index, out);
+    let index = board::byte_at(indexes, board);
+    let version = board::byte_at(versions, board);
+    let writing = message::write_list(
+        seen.setup,
+        kinds,
+        versions,
+        seen.top,
+        board,
+        version,
+        index,
+        out,
+    );
     let next = waiting(board, Exchange::List, 0);
     let answer = Answer::Wait(board, Exchange::List);
     sent(writing, next, board, Edit::Unmarked, answer)
 }
 
 // Offers a board the bus.
-fn send_offer(seen: Seen, indexes: &[u8; 40], board: usize, out: &mut [u8]) -> Change
-    ensures { λ r. ⌜ Decides seen (OfIndexes (now (indexes .entry))) (λ c t. sending (dueOffer c t board) c t (length (now (out .entry)))) r (now (out .entry)) (now (out .exit)) ⌝ }
+fn send_offer(
+    seen: Seen,
+    indexes: &[u8; 40],
+    versions: &[u8; 40],
+    board: usize,
+    out: &mut [u8],
+) -> Change
+    ensures { λ r. ⌜ Decides seen (λ c t. OfIndexes (now (indexes .entry)) c t × OfVersions (now (versions .entry)) c t) (λ c t. sending (dueOffer c t board) c t (length (now (out .entry)))) r (now (out .entry)) (now (out .exit)) ⌝ }
 {
-    let index = board::index_at(indexes, board);
-    let writing = message::write_signed(seen.setup, board, index, 0, out);
+    let index = board::byte_at(indexes, board);
+    let version = board::byte_at(versions, board);
+    let writing = message::write_signed(seen.setup, board, version, index, 0, out);
     let answer = Answer::Wait(board, Exchange::Offer);
     sent(writing, Move::Offered(board), 0, Edit::Nothing, answer)
 }
 
 // Our own next transmission: the list to the lowest position owed, else an offer to the next listed position. Nobody is
 // listed above the highest listed position, so nobody is looked for there.
-fn send_own(seen: Seen, kinds: &[u8; 40], indexes: &[u8; 40], out: &mut [u8]) -> Change
-    ensures { λ r. ⌜ Decides seen (λ c t. OfTypes (now (kinds .entry)) c t × OfIndexes (now (indexes .entry)) c t) (λ c t. sending (dueOwn c t) c t (length (now (out .entry)))) r (now (out .entry)) (now (out .exit)) ⌝ }
+fn send_own(
+    seen: Seen,
+    kinds: &[u8; 40],
+    indexes: &[u8; 40],
+    versions: &[u8; 40],
+    out: &mut [u8],
+) -> Change
+    ensures { λ r. ⌜ Decides seen (λ c t. OfTypes (now (kinds .entry)) c t × OfIndexes (now (indexes .entry)) c t × OfVersions (now (versions .entry)) c t) (λ c t. sending (dueOwn c t) c t (length (now (out .entry)))) r (now (out .entry)) (now (out .exit)) ⌝ }
 {
     let state = seen.state;
     let owed = seen.owed;
     if 0 < owed {
-        return send_list(seen, kinds, indexes, owed, out);
+        return send_list(seen, kinds, indexes, versions, owed, out);
     }
     let board = board::next_listed(kinds, seen.top, state.last);
-    send_offer(seen, indexes, board, out)
+    send_offer(seen, indexes, versions, board, out)
 }
 
 // The coordinator waits in the exchange by which a board joins.
@@ -177,8 +214,9 @@ fn seeking(position: usize, part: Part) -> Move
 fn send_identify(seen: Seen, indexes: &[u8; 40], position: usize, out: &mut [u8]) -> Change
     ensures { λ r. ⌜ Decides seen (OfIndexes (now (indexes .entry))) (λ c t. sending (dueIdentify c t position) c t (length (now (out .entry)))) r (now (out .entry)) (now (out .exit)) ⌝ }
 {
-    let index = board::index_at(indexes, position);
-    let writing = message::write_identify(seen.setup, position, index, out);
+    let version = seen.state.found.version;
+    let index = board::byte_at(indexes, position);
+    let writing = message::write_identify(seen.setup, position, version, index, out);
     let next = seeking(position, Part::Identify);
     let answer = Answer::Seek(position, Seek::Identify);
     sent(writing, next, 0, Edit::Nothing, answer)
@@ -190,7 +228,14 @@ fn send_assign(seen: Seen, position: usize, out: &mut [u8]) -> Change
 {
     let state = seen.state;
     let found = state.found;
-    let writing = message::write_assign(seen.setup, position, found.mac, found.session, out);
+    let writing = message::write_assign(
+        seen.setup,
+        position,
+        found.version,
+        found.mac,
+        found.session,
+        out,
+    );
     let next = seeking(position, Part::Assign);
     let answer = Answer::Seek(position, Seek::Assign);
     sent(writing, next, 0, Edit::Nothing, answer)
@@ -215,20 +260,21 @@ fn send_due(
     payload: &[u8],
     kinds: &[u8; 40],
     indexes: &[u8; 40],
+    versions: &[u8; 40],
     out: &mut [u8],
 ) -> Change
     requires { ⌜ isAwaiting phase ≡ false ⌝ }
-    ensures { λ r. ⌜ Decides seen (λ c t. (phase ≡ phaseOf (c .stand)) × (now (payload .entry) ≡ c .kept .payload) × OfTypes (now (kinds .entry)) c t × OfIndexes (now (indexes .entry)) c t) (λ c t. sending (dueIn phase c t) c t (length (now (out .entry)))) r (now (out .entry)) (now (out .exit)) ⌝ }
+    ensures { λ r. ⌜ Decides seen (λ c t. (phase ≡ phaseOf (c .stand)) × (now (payload .entry) ≡ c .kept .payload) × OfTypes (now (kinds .entry)) c t × OfIndexes (now (indexes .entry)) c t × OfVersions (now (versions .entry)) c t) (λ c t. sending (dueIn phase c t) c t (length (now (out .entry)))) r (now (out .entry)) (now (out .exit)) ⌝ }
 {
     match phase {
         Phase::ReturnDue { board } => {
-            send_carried(seen, payload, board, Exchange::Return, 0, 0, out)
+            send_carried(seen, payload, versions, board, Exchange::Return, 0, 0, out)
         }
         Phase::ForwardDue { board, requester } => {
-            send_forward(seen, payload, indexes, board, requester, out)
+            send_forward(seen, payload, indexes, versions, board, requester, out)
         }
         Phase::Seeking { position, part } => send_seek(part, seen, indexes, position, out),
-        _ => send_own(seen, kinds, indexes, out),
+        _ => send_own(seen, kinds, indexes, versions, out),
     }
 }
 
@@ -282,9 +328,10 @@ pub fn turn(
     payload: &[u8],
     kinds: &[u8; 40],
     indexes: &[u8; 40],
+    versions: &[u8; 40],
     out: &mut [u8],
 ) -> Change
-    ensures { λ r. ⌜ Decides seen (λ c t. (now (payload .entry) ≡ c .kept .payload) × OfTypes (now (kinds .entry)) c t × OfIndexes (now (indexes .entry)) c t) (λ c t. turnOf c t (length (now (out .entry)))) r (now (out .entry)) (now (out .exit)) ⌝ }
+    ensures { λ r. ⌜ Decides seen (λ c t. (now (payload .entry) ≡ c .kept .payload) × OfTypes (now (kinds .entry)) c t × OfIndexes (now (indexes .entry)) c t × OfVersions (now (versions .entry)) c t) (λ c t. turnOf c t (length (now (out .entry)))) r (now (out .entry)) (now (out .exit)) ⌝ }
 {
     let state = seen.state;
     let stand = state.stand;
@@ -295,5 +342,5 @@ pub fn turn(
     if (seen.top == 0) & !is_due(phase) {
         return change::refusing(Refusal::NobodyListed);
     }
-    send_due(phase, seen, payload, kinds, indexes, out)
+    send_due(phase, seen, payload, kinds, indexes, versions, out)
 }

@@ -63,11 +63,11 @@ module _ (c : Coordinator) (t : List Node) (h : fits c t ≡ true) where
 
     -- where an ACK is written it has room, or all is refused
     module _ (room : ℕ) (says : Told) where
-      acks : (after : Coordinator) → Moves c t (accepted after (hear t b) says (signedFrame (c .setup) t b ackCode)) → Moves c t (acking c t b room says after)
+      acks : (after : Coordinator) → Moves c t (accepted after (hear t b) says (signedFrame (c .setup) t b (at t b .version) ackCode)) → Moves c t (acking c t b room says after)
       unfolding choose
       acks after m = go (ltb room 29)
         where
-          go : (s : Bool) → Moves c t (choose s (refused c t NoRoom) (accepted after (hear t b) says (signedFrame (c .setup) t b ackCode)))
+          go : (s : Bool) → Moves c t (choose s (refused c t NoRoom) (accepted after (hear t b) says (signedFrame (c .setup) t b (at t b .version) ackCode)))
           go true = refusing c t NoRoom
           go false = m
 
@@ -76,7 +76,7 @@ module _ (c : Coordinator) (t : List Node) (h : fits c t ≡ true) where
 
   module _ (b q : ℕ) (a : Bool) (hd : Header) (p : List ℕ) (room : ℕ) where
     -- a request goes on to its board, or the wait ends
-    routes : phaseOf (c .stand) ≡ Awaiting b Offer q a → (s : Bool) (to : ℕ) → Moves c t (accepted (choose s (withPhase (keeping c (keptOf hd p)) (ForwardDue to b)) (withPhase c Resting)) (hear t b) transmits (signedFrame (c .setup) t b ackCode))
+    routes : phaseOf (c .stand) ≡ Awaiting b Offer q a → (s : Bool) (to : ℕ) → Moves c t (accepted (choose s (withPhase (keeping c (keptOf hd p)) (ForwardDue to b)) (withPhase c Resting)) (hear t b) transmits (signedFrame (c .setup) t b (at t b .version) ackCode))
     unfolding choose underWay
     routes w true to = moved c t h (keptOf hd p) (hear t b) transmits _ (forward-due to b) plain-transmits (hear-listed w) (rw w (omega arith))
     routes w false to = ended c t h (hear t b) transmits _ w plain-transmits (hear-listed w) (λ y. hear-owed w)
@@ -96,7 +96,7 @@ module _ (c : Coordinator) (t : List Node) (h : fits c t ≡ true) where
     unfolding underWay
     first-ack w e = moved c t h (c .kept) (hearAck t b (ackSession p)) (waits b Forward) [] (forwarding b q true) (plain-forward b) (ack-listed w (ackSession p)) (rw (w, e) (omega arith))
 
-    answered : (d : Bool) → phaseOf (c .stand) ≡ Awaiting b Forward q d → Moves c t (accepted (withPhase (keeping c (keptOf hd p)) (ReturnDue q)) (hear t b) transmits (signedFrame (c .setup) t b ackCode))
+    answered : (d : Bool) → phaseOf (c .stand) ≡ Awaiting b Forward q d → Moves c t (accepted (withPhase (keeping c (keptOf hd p)) (ReturnDue q)) (hear t b) transmits (signedFrame (c .setup) t b (at t b .version) ackCode))
     unfolding underWay
     answered true w = moved c t h (keptOf hd p) (hear t b) transmits _ (return-due q) plain-transmits (hear-listed w) (rw w (omega arith))
     answered false w = moved c t h (keptOf hd p) (hear t b) transmits _ (return-due q) plain-transmits (hear-listed w) (rw w (omega arith))

@@ -60,20 +60,20 @@ module _ (c : Coordinator) (t : List Node) (h : fits c t ≡ true) where
   pub idle : isBusy c t ≡ false → phaseOf (c .stand) ≡ Resting
   idle e = rests-only (phaseOf (c .stand)) (not-false (isResting (phaseOf (c .stand))) (neither (not (isResting (phaseOf (c .stand)))) (ltb 0 (lowestOf t Owed (c .setup .k))) e .0))
 
-  module _ (kind mac session : ℕ) where
+  module _ (kind mac session version : ℕ) where
     -- it is work
-    join-works : Passed (joinRules c t kind mac) → Works c t (joinedAs c t kind mac session)
-    join-works passed = record { said = refl; nobody = plain-rests .1; last = refl; falls = λ f n m. join-falls (chosen t (c .setup .k) mac) (joinedNode kind mac session) (idle (passed .1 .1 .1 .0)) (passed .1 .1 .1 .1 .0) f n }
+    join-works : Passed (joinRules c t kind mac version) → Works c t (joinedAs c t kind mac session version)
+    join-works passed = record { said = refl; nobody = plain-rests .1; last = refl; falls = λ f n m. join-falls (chosen t (c .setup .k) mac) (joinedNode kind mac session version) (idle (passed .1 .1 .1 .0)) (passed .1 .1 .1 .1 .0) f n }
 
     -- so a join is a refusal, or work
-    pub join-moves : Moves c t (joinOf c t kind mac session)
+    pub join-moves : Moves c t (joinOf c t kind mac session version)
     unfolding joinOf
-    join-moves = guarded c t (joinRules c t kind mac) (joinedAs c t kind mac session) (λ passed. works (join-works passed))
+    join-moves = guarded c t (joinRules c t kind mac version) (joinedAs c t kind mac session version) (λ passed. works (join-works passed))
 
     -- refused or not, a join leaves the potential no higher
-    pub join-lowers : Lowers c t (joinOf c t kind mac session)
+    pub join-lowers : Lowers c t (joinOf c t kind mac session version)
     unfolding joinOf
-    join-lowers = by-rules (Lowers c t) (joinRules c t kind mac) (refused c t) (joinedAs c t kind mac session) (each unchanged (joinRules c t kind mac)) (λ passed. record { last = refl; most = λ f n m. omega (arith, join-works passed .falls f n m) })
+    join-lowers = by-rules (Lowers c t) (joinRules c t kind mac version) (refused c t) (joinedAs c t kind mac session version) (each unchanged (joinRules c t kind mac version)) (λ passed. record { last = refl; most = λ f n m. omega (arith, join-works passed .falls f n m) })
       where
         unchanged : (r : Refusal) → Lowers c t (refused c t r)
         unchanged r = record { last = refl; most = λ f n m. omega arith }

@@ -69,12 +69,12 @@ module _ (c : Coordinator) (t : List Node) (h : fits c t ≡ true) where
     ended-falls = rw (phase-back at-rest, w) (omega (arith, left-least part))
 
     -- a response ends it, with a join or without: what the join makes of the potential is no higher
-    settles : (f : Found) (b : Bool) → Moves c t (acknowledged (c .setup) position (choose b (joinFound c t f) (resting (ended c) (hearMac t position (f .mac)) 0 0)))
+    settles : (f : Found) (b : Bool) → Moves c t (acknowledged (c .setup) position (f .version) (choose b (joinFound c t f) (resting (ended c) (hearMac t position (f .mac)) 0 0)))
     unfolding choose
     settles f true = works (record { said = refl; nobody = plain-transmits .1; last = joins .last; falls = λ g n m. omega (arith, joins .most g n m, ended-falls) })
       where
         joins : Lowers (ended c) t (joinFound c t f)
-        joins = join-lowers (ended c) t (ended-fits c t h) (f .kind) (f .mac) (f .session)
+        joins = join-lowers (ended c) t (ended-fits c t h) (f .kind) (f .mac) (f .session) (f .version)
     settles f false = over (hearMac t position (f .mac)) transmits _ plain-transmits (heard-keeps Listed (λ n. refl) position (f .mac)) (heard-keeps Owed (λ n. refl) position (f .mac))
 
     -- where its ACK has room
@@ -82,7 +82,7 @@ module _ (c : Coordinator) (t : List Node) (h : fits c t ≡ true) where
     unfolding choose
     settled-moves f room = go (ltb room 29)
       where
-        go : (b : Bool) → Moves c t (choose b (refused c t NoRoom) (acknowledged (c .setup) position (outcome c t position f)))
+        go : (b : Bool) → Moves c t (choose b (refused c t NoRoom) (acknowledged (c .setup) position (f .version) (outcome c t position f)))
         go true = refusing c t NoRoom
         go false = settles f (eqb (joinFound c t f .joined) position)
 
@@ -103,16 +103,16 @@ module _ (c : Coordinator) (t : List Node) (h : fits c t ≡ true) where
   -- what a frame is in each part
   module _ (position : ℕ) (hd : Header) (p : List ℕ) (room : ℕ) where
     abbrev Replied : Reply → Type 0
-    Replied r = Moves c t (repliedAs r position c t p room)
+    Replied r = Moves c t (repliedAs r position c t (hd .packet) p room)
 
     unexpected : Replied (Refused UnexpectedType)
     unexpected = refusing c t UnexpectedType
 
     pub sought-moves : (part : Part) → phaseOf (c .stand) ≡ Seeking position part → Moves c t (soughtIn part position c t hd p room)
-    sought-moves Search w = search-replied Replied unexpected (hd .message) p (λ type size. answered-moves w (discovered p))
+    sought-moves Search w = search-replied Replied unexpected (hd .message) p (λ type size. answered-moves w (discovered (hd .packet) p))
     sought-moves IdentifyDue w = refusing c t NotAwaited
-    sought-moves Identify w = identify-replied Replied unexpected (hd .message) p false (λ first type size code. present-moves w (macAfter p)) (λ type size. settled-moves position w (identified p) room)
-    sought-moves Present w = identify-replied Replied unexpected (hd .message) p true (λ first type size code. absurd (false≢true (sym first))) (λ type size. settled-moves position w (identified p) room)
+    sought-moves Identify w = identify-replied Replied unexpected (hd .message) p false (λ first type size code. present-moves w (macAfter p)) (λ type size. settled-moves position w (identified (c .found .version) p) room)
+    sought-moves Present w = identify-replied Replied unexpected (hd .message) p true (λ first type size code. absurd (false≢true (sym first))) (λ type size. settled-moves position w (identified (c .found .version) p) room)
     sought-moves AssignDue w = refusing c t NotAwaited
     sought-moves Assign w = assign-replied Replied unexpected (hd .message) _ (refusing c t BadEcho) (λ same type. settled-moves position w (c .found) room)
 

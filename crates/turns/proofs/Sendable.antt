@@ -45,7 +45,7 @@ module _ (c : Coordinator) (t : List Node) (h : fits c t ≡ true) (s : someList
   -- a list or an offer goes into a frame
   own-sendable : (b : Bool) → ltb 0 (owedTo c t) ≡ b → Sendable (choose b (dueList c t (owedTo c t)) (dueOffer c t (nextListed t (c .setup .k) (c .last))))
   unfolding choose
-  own-sendable true l = record { small = list-small (c .setup .internal) t; somebody = ltb-true 0 (owedTo c t) l }
+  own-sendable true l = record { small = list-small (at t (owedTo c t) .version) (c .setup .internal) t; somebody = ltb-true 0 (owedTo c t) l }
   own-sendable false l = record { small = signed-small (c .setup) offerCode; somebody = next-from }
 
   -- what is carried is as long as fit allows
@@ -59,7 +59,7 @@ module _ (c : Coordinator) (t : List Node) (h : fits c t ≡ true) (s : someList
   seek-sendable position IdentifyDue n l = record { small = omega arith; somebody = l }
   seek-sendable position Identify n l = absurd (false≢true (sym n))
   seek-sendable position Present n l = absurd (false≢true (sym n))
-  seek-sendable position AssignDue n l = record { small = assignment-small (c .setup) position (c .found .mac) (c .found .session); somebody = l }
+  seek-sendable position AssignDue n l = record { small = assignment-small (c .setup) position (c .found .version) (c .found .mac) (c .found .session); somebody = l }
   seek-sendable position Assign n l = absurd (false≢true (sym n))
 
   -- and so whatever is due

@@ -52,7 +52,7 @@ step-moves : (w : World) (i : Input) → isFit w ≡ true → Moves (w .coordina
 step-moves w i h = go (i .event)
   where
     go : (e : Event) → Moves (w .coordinator) (w .nodes) (stepOf (w .coordinator) (w .nodes) e (i .received) (i .room))
-    go (Join kind mac session) = join-moves (w .coordinator) (w .nodes) h kind mac session
+    go (Join kind mac session version) = join-moves (w .coordinator) (w .nodes) h kind mac session version
     go Turn = turn-moves (w .coordinator) (w .nodes) h (i .room)
     go Frame = frame-moves (w .coordinator) (w .nodes) h (i .received) (i .room)
     go Quiet = quiet-moves (w .coordinator) (w .nodes) h

@@ -5,16 +5,17 @@ use mathlib.Core.Path.{_≡_, sym, ap, _∙_}
 use mathlib.Core.Logic.{_⊎_, inl, inr}
 use mathlib.Core.Bool.{true, false, true≢false, false≢true}
 use mathlib.Core.List.{List, []}
-use lib.ListN.{length, getD}
-use lib.Dec.{eqb, leb}
-use borrow.Author.Tests.{eqb-false, leb-true}
+use lib.ListN.{length, drop, getD}
+use lib.Dec.{eqb, leb, ltb}
+use borrow.Author.Tests.{eqb-false, leb-true, ltb-true}
 use Rattle.ground.specs.Below.{among}
-use Rattle.frame.specs.Frame.{headerOf, reading, payloadOf}
+use Rattle.frame.specs.Frame.{headerOf, takesSubnet, reading, payloadOf}
 use Rattle.board.specs.Node.{isKind, isMac}
 use Rattle.board.specs.Table.{at, listedAt}
+use Rattle.board.specs.Columns.{kindsOf}
 use Rattle.board.specs.Wanted.{someListed, indexOf}
-use Rattle.setup.specs.Setup.{isPool, address}
-use Rattle.nodelist.specs.List.{nodeList}
+use Rattle.setup.specs.Setup.{isPool, oldSubnet, address}
+use Rattle.nodelist.specs.List.{listFor}
 use Rattle.accept.specs.Accept.{requestType}
 use Rattle.steps.specs.After.{After}
 use Rattle.series.specs.Series.{left, Input, World, Panel, Fresh, after, isAccepted, waitedFor, waitsIn, offers, accepted, stays}
@@ -25,6 +26,7 @@ use Rattle.series.specs.StoredIndex.{storedAt, carriesIndex, StoredIndex}
 use Rattle.series.specs.Exchange.{Runs, comes, reached, isRunning, OneJoin, discoveries, peopled, Seldom}
 use Rattle.series.specs.Wire.{isSending, addressed, OnTheWire}
 use Rattle.series.specs.Others.{isOthers, OthersUnheard}
+use Rattle.series.specs.OldBoards.{mayAnswer, OldBoards}
 
 module _ {P : Panel} {k : ℕ} {w : World} (f : Fresh P k w) (is : List Input) where
   module _ (i : Input) (p : ℕ) where
@@ -75,6 +77,10 @@ module _ {P : Panel} {k : ℕ} {w : World} (f : Fresh P k w) (is : List Input) w
   pub mistyped : (p : ℕ) → listedAt (after P w is .nodes) p ≡ true → eqb (at (after P w is .nodes) p .kind) (seen P w nothing is .who p .kind) ≡ false → AsJoined P → ⊥
   mistyped p listed apart s = eqb-false _ _ apart (ap (λ (x : Who). x .kind) (s .who k w f is p listed))
 
+  -- or another version
+  pub misversioned : (p : ℕ) → listedAt (after P w is .nodes) p ≡ true → eqb (at (after P w is .nodes) p .version) (seen P w nothing is .who p .version) ≡ false → AsJoined P → ⊥
+  misversioned p listed apart s = eqb-false _ _ apart (ap (λ (x : Who). x .version) (s .who k w f is p listed))
+
   -- a position's stored index is another than the counted one
   pub miscounted : (p : ℕ) → eqb (storedAt (after P w is) p) (indexOf (after P w is .nodes) p) ≡ false → StoredIndex P → ⊥
   miscounted p apart s = eqb-false _ _ apart (s .counted k w f is p)
@@ -94,7 +100,7 @@ module _ {P : Panel} {k : ℕ} {w : World} (f : Fresh P k w) (is : List Input) w
   misacknowledged received p from writes apart s = eqb-false _ _ apart (s .acknowledged k w f is received 252 p from (leb-true 1 _ writes))
 
   -- byte p of a list is another than the joins told; so is the index in an offer or a list; so is the board to which a request goes
-  pub mislisted : (p : ℕ) → waitsIn (P .step (after P w is) (turnWith 252) .says) ≡ 2 → eqb (getD (payloadOf (after P w is .coordinator .setup .subnet) (P .step (after P w is) (turnWith 252) .bytes)) p 0) (getD (nodeList (after P w is .coordinator .setup .internal) (noted (seen P w nothing is))) p 0) ≡ false → AsJoined P → ⊥
+  pub mislisted : (p : ℕ) → waitsIn (P .step (after P w is) (turnWith 252) .says) ≡ 2 → eqb (getD (payloadOf (headerOf (P .step (after P w is) (turnWith 252) .bytes) .subnet) (P .step (after P w is) (turnWith 252) .bytes)) p 0) (getD (listFor (seen P w nothing is .who (waitedFor (P .step (after P w is) (turnWith 252) .says)) .version) (after P w is .coordinator .setup .internal) (noted (seen P w nothing is))) p 0) ≡ false → AsJoined P → ⊥
   mislisted p lists apart s = eqb-false _ _ apart (ap (λ (bytes : List ℕ). getD bytes p 0) (s .list k w f is 252 lists))
 
   pub misindexed : isOwn (P .step (after P w is) (turnWith 252) .says) ≡ true → eqb (headerOf (P .step (after P w is) (turnWith 252) .bytes) .parameter2) (indexOf (noted (seen P w nothing is)) (waitedFor (P .step (after P w is) (turnWith 252) .says))) ≡ false → AsJoined P → ⊥
@@ -108,8 +114,8 @@ module _ {P : Panel} {k : ℕ} {w : World} (f : Fresh P k w) (is : List Input) w
   joins-again d js runs twice s = let z : ⊥ = omega (arith, twice, s .joined k w f is d js runs (let l : 1 ≤ comes P (after P w is) d js .joins = omega (arith, twice) in l) .0) in z
 
   -- while an exchange runs a join is taken
-  pub joins-inside : (d : Input) (js : List Input) → Runs P (after P w is) d js → isRunning P (reached P (after P w is) d js) (comes P (after P w is) d js) ≡ true → (kind mac session : ℕ) → isKind kind ≡ true → isMac mac ≡ true → isAccepted (P .step (reached P (after P w is) d js) (joinWith kind mac session) .says) ≡ true → OneJoin P → ⊥
-  joins-inside d js runs on kind mac session one own taken s = false≢true (sym (ap isAccepted (s .busy k w f is d js runs on kind mac session one own)) ∙ taken)
+  pub joins-inside : (d : Input) (js : List Input) → Runs P (after P w is) d js → isRunning P (reached P (after P w is) d js) (comes P (after P w is) d js) ≡ true → (kind mac session version : ℕ) → isKind kind ≡ true → isMac mac ≡ true → isAccepted (P .step (reached P (after P w is) d js) (joinWith kind mac session version) .says) ≡ true → OneJoin P → ⊥
+  joins-inside d js runs on kind mac session version one own taken s = false≢true (sym (ap isAccepted (s .busy k w f is d js runs on kind mac session version one own)) ∙ taken)
 
   -- two discoveries are started in a stretch without an offer, with somebody listed throughout
   pub discovers-often : (js : List Input) → peopled P (after P w is) js ≡ true → offers P (after P w is) js ≡ [] → discoveries P (after P w is) js ≡ 2 → Seldom P → ⊥
@@ -126,9 +132,17 @@ module _ {P : Panel} {k : ℕ} {w : World} (f : Fresh P k w) (is : List Input) w
   pub spared-by-others : (i : Input) (p : ℕ) → isOthers (after P w is .coordinator .setup) i ≡ true → eqb (at (P .step (after P w is) i .nodes) p .misses) (at (after P w is .nodes) p .misses) ≡ false → OthersUnheard P → ⊥
   spared-by-others i p others apart s = eqb-false _ _ apart (ap (λ (a : After). at (a .nodes) p .misses) (s .refused k w f is i others))
 
+  -- a frame of the subnet of 1.0 boards is accepted while none may answer
+  pub heard-old : (received : List ℕ) → mayAnswer (seen P w nothing is) ≡ false → headerOf received .subnet ≡ oldSubnet → takesSubnet (after P w is .coordinator .setup .subnet) oldSubnet ≡ false → isAccepted (P .step (after P w is) (frameWith received 252) .says) ≡ true → isAccepted (reading (after P w is .coordinator .setup .subnet) received) ≡ false → OldBoards P → ⊥
+  heard-old received none old other taken unread s = false≢true (sym unread ∙ sym (ap (λ (a : After). isAccepted (a .says)) (s .unheard k w f is none received 252 old other)) ∙ taken)
+
+  -- a list lacks a type that is listed by what the joins told
+  pub untold : (kind : ℕ) → ltb 0 kind ≡ true → waitsIn (P .step (after P w is) (turnWith 252) .says) ≡ 2 → among kind (drop 1 (payloadOf (headerOf (P .step (after P w is) (turnWith 252) .bytes) .subnet) (P .step (after P w is) (turnWith 252) .bytes))) ≡ false → among kind (kindsOf (noted (seen P w nothing is))) ≡ true → OldBoards P → ⊥
+  untold kind one lists lacks listed s = false≢true (sym lacks ∙ s .types k w f is 252 lists kind (ltb-true 0 kind one) ∙ listed)
+
   -- a join that the rules allow is refused
-  pub turned-away : (kind mac session : ℕ) → Allowed (after P w is) kind mac → isAccepted (P .step (after P w is) (joinWith kind mac session) .says) ≡ false → TakesJoins P → ⊥
-  turned-away kind mac session allowed refuses s = false≢true (sym refuses ∙ ap isAccepted (s k w f is kind mac session allowed .0))
+  pub turned-away : (kind mac session version : ℕ) → Allowed (after P w is) kind mac version → isAccepted (P .step (after P w is) (joinWith kind mac session version) .says) ≡ false → TakesJoins P → ⊥
+  turned-away kind mac session version allowed refuses s = false≢true (sym refuses ∙ ap isAccepted (s k w f is kind mac session version allowed .0))
 
 -- a setup that the rules allow is refused
 pub not-started : (P : Panel) (w : World) (addresses : List ℕ) (subnet internal mac session : ℕ) → length (w .nodes) ≡ 40 → isPool addresses ≡ true → isMac mac ≡ true → isAccepted (P .start w addresses subnet internal mac session .says) ≡ false → Starts P → ⊥

@@ -12,7 +12,9 @@ use Rattle.board.specs.Index.{numbered}
 use Rattle.board.specs.Change.{oweAll, relisted}
 use Rattle.setup.specs.Setup.{arePool, address, setupFits}
 use Rattle.setup.specs.Fit.{recordFits, areApart, areNumbered, tableFits}
-use Rattle.nodelist.specs.List.{nodeList, sameByte, sameList}
+use Rattle.board.specs.Types.{typeCount, tooManyTypes}
+use Rattle.nodelist.specs.Condensed.{standingTo, filledTo, condensed}
+use Rattle.nodelist.specs.List.{nodeList, listFor, sameBytes}
 use Rattle.routing.specs.Route.{hasKind, priorityKind, atSocket, namedPosition, routeOf}
 use Rattle.routing.specs.Priority.{priorityList}
 use Rattle.message.specs.Message.{toBoard, ownHeader, signed, broadcastHeader, assignment}
@@ -32,5 +34,5 @@ use Rattle.series.specs.AsJoined.{noted}
 use Rattle.series.specs.Exchange.{goesOn, course, discoveries, peopled}
 
 unfoldable pub opened : ℕ
-unfolding choose all some count upFrom firstOr highest among sumsFrom reading payloadOf frameOf bytesOf valueOf wordAt at put lowestOf highestListed indexOf someListed round nextListed numbered oweAll relisted arePool address setupFits recordFits areApart areNumbered tableFits nodeList sameByte sameList hasKind priorityKind atSocket namedPosition routeOf priorityList toBoard ownHeader signed broadcastHeader assignment isAck heardAfterOffer heardAfterList heardAfterForward heardAfterReturn heardInSearch heardInIdentify isAssignment heardInAssign phaseOf standOf phaseFits holdFits fits startOf joinOf turnIn receiveIn quietIn discoverOf after offers accepted stays seen noted goesOn course discoveries peopled
+unfolding choose all some count upFrom firstOr highest among sumsFrom reading payloadOf frameOf bytesOf valueOf wordAt at put lowestOf highestListed indexOf someListed round nextListed numbered oweAll relisted arePool address setupFits recordFits areApart areNumbered tableFits typeCount tooManyTypes nodeList standingTo filledTo condensed listFor sameBytes hasKind priorityKind atSocket namedPosition routeOf priorityList toBoard ownHeader signed broadcastHeader assignment isAck heardAfterOffer heardAfterList heardAfterForward heardAfterReturn heardInSearch heardInIdentify isAssignment heardInAssign phaseOf standOf phaseFits holdFits fits startOf joinOf turnIn receiveIn quietIn discoverOf after offers accepted stays seen noted goesOn course discoveries peopled
 opened = 0

@@ -11,10 +11,11 @@ use Rattle.series.specs.StoredIndex.{StoredIndex}
 use Rattle.series.specs.Exchange.{OneJoin, Seldom}
 use Rattle.series.specs.Wire.{OnTheWire}
 use Rattle.series.specs.Others.{OthersUnheard}
-use Rattle.wrong.specs.Wrong.{stepping, quietDoesNothing, quietChangesNothing, quietNeverDrops, offersOneBoard, onlyLooksBusy, waitsForEver, countsSinceJoining, restartsRound, hearsAnyone, hearsOthers, sparesForOthers, listsTwice, keepsType, keepsIndexes, countsFromOne, joinsTwice, joinsInside, missesInAssign, discoversAgain, tellsAnother, takesNoSetup, takesNoJoin}
-use Rattle.wrong.specs.Trial.{before, begun, one, two, turn, quiet, missesTwice, answersBetween, anotherBetween, otherRequest, otherBetween, listed, echo, eighteenQuiets, offeredOnce, joinsAgain, retyped, retypedBelow, retypedListed, droppedBelow, joinedBelow, asksForType, firstRound, nineLists, bothJoin, twoOffers, joinedOnce, listedOnce, discover, secondFound, foundBelow, firstFound, foundRetyped, twoDiscoveries}
+use Rattle.series.specs.OldBoards.{OldBoards}
+use Rattle.wrong.specs.Wrong.{stepping, quietDoesNothing, quietChangesNothing, quietNeverDrops, offersOneBoard, onlyLooksBusy, waitsForEver, countsSinceJoining, restartsRound, hearsAnyone, hearsOthers, sparesForOthers, listsTwice, keepsType, keepsVersion, wholeLists, standsOnly, keepsIndexes, countsFromOne, joinsTwice, joinsInside, missesInAssign, discoversAgain, tellsAnother, takesNoSetup, takesNoJoin}
+use Rattle.wrong.specs.Trial.{before, begun, one, two, turn, quiet, missesTwice, answersBetween, anotherBetween, otherRequest, oldRequest, otherBetween, listed, echo, eighteenQuiets, offeredOnce, joinsAgain, cameBackOld, retyped, retypedBelow, retypedListed, droppedBelow, joinedBelow, asksForType, firstRound, nineLists, bothJoin, bothOld, oldAndLater, twoOffers, joinedOnce, listedOnce, discover, secondFound, foundBelow, firstFound, foundRetyped, twoDiscoveries}
 use Rattle.wrong.proofs.Opened.{opened}
-use Rattle.wrong.proofs.Laws.{outstays, leaves-early, leaves-unasked, passed-over, starved, stuck, lingers, alike, mistyped, miscounted, mistold, miscarried, misforwarded, misacknowledged, mislisted, misindexed, misrouted, joins-again, joins-inside, discovers-often, misdirected, heard-others, spared-by-others, turned-away, not-started}
+use Rattle.wrong.proofs.Laws.{outstays, leaves-early, leaves-unasked, passed-over, starved, stuck, lingers, alike, mistyped, misversioned, miscounted, mistold, miscarried, misforwarded, misacknowledged, mislisted, misindexed, misrouted, joins-again, joins-inside, discovers-often, misdirected, heard-others, spared-by-others, heard-old, untold, turned-away, not-started}
 
 -- a fresh start with one address, and with two
 from-one : {step : World → Input → After} → Fresh (stepping step) 1 (begun one)
@@ -95,7 +96,7 @@ unfolding opened
 lists-twice-unfit s = s 2 (begun two) from-two joinsAgain turn refl
 
 -- a furnace that joins again as an air handler is a furnace still; so is one that is found by a discovery
-pub keeps-type-refuted : AsJoined (keepsType (Join 0 0 0)) → ⊥
+pub keeps-type-refuted : AsJoined (keepsType (Join 0 0 0 0)) → ⊥
 unfolding opened
 keeps-type-refuted = mistyped from-one retyped 1 refl refl
 
@@ -104,24 +105,44 @@ unfolding opened
 keeps-type-found-refuted = mistyped from-two foundRetyped 1 refl refl
 
 -- and whoever looks at no record sees it: in the list, in the index of the air handler above it, and where a request for an air handler goes
-pub keeps-type-listed : AsJoined (keepsType (Join 0 0 0)) → ⊥
+pub keeps-type-listed : AsJoined (keepsType (Join 0 0 0 0)) → ⊥
 unfolding opened
 keeps-type-listed = mislisted from-one retyped 1 refl refl
 
-pub keeps-type-indexed : AsJoined (keepsType (Join 0 0 0)) → ⊥
+pub keeps-type-indexed : AsJoined (keepsType (Join 0 0 0 0)) → ⊥
 unfolding opened
 keeps-type-indexed = misindexed from-two retypedListed refl refl
 
-pub keeps-type-routed : AsJoined (keepsType (Join 0 0 0)) → ⊥
+pub keeps-type-routed : AsJoined (keepsType (Join 0 0 0 0)) → ⊥
 unfolding opened
 keeps-type-routed = misrouted from-two (retypedListed ++ turn ∷ []) asksForType refl refl refl refl
 
+-- a board that comes back as a 1.0 board is a later one still
+pub keeps-version-refuted : AsJoined keepsVersion → ⊥
+unfolding opened
+keeps-version-refuted = misversioned from-one cameBackOld 1 refl refl
+
+-- of two 1.0 boards of one type both stand in the list
+pub whole-lists-refuted : AsJoined wholeLists → ⊥
+unfolding opened
+whole-lists-refuted = mislisted from-two bothOld 2 refl refl
+
+-- a later board is heard in the subnet of 1.0 boards
+pub hears-others-old : OldBoards hearsOthers → ⊥
+unfolding opened
+hears-others-old = heard-old from-one offeredOnce (oldRequest .received) refl refl refl refl refl
+
+-- a 1.0 board is not told of a later one
+pub stands-only-refuted : OldBoards standsOnly → ⊥
+unfolding opened
+stands-only-refuted = untold from-two oldAndLater 3 refl refl refl refl
+
 -- a board keeps its index when one below it joins again as its type, when another one of its type joins below it, when one below it is found, and when one below it is dropped
-pub keeps-indexes-retyped : StoredIndex (keepsIndexes (Join 0 0 0)) → ⊥
+pub keeps-indexes-retyped : StoredIndex (keepsIndexes (Join 0 0 0 0)) → ⊥
 unfolding opened
 keeps-indexes-retyped = miscounted from-two retypedBelow 2 refl
 
-pub keeps-indexes-joined : StoredIndex (keepsIndexes (Join 0 0 0)) → ⊥
+pub keeps-indexes-joined : StoredIndex (keepsIndexes (Join 0 0 0 0)) → ⊥
 unfolding opened
 keeps-indexes-joined = miscounted from-two joinedBelow 2 refl
 
@@ -134,7 +155,7 @@ unfolding opened
 keeps-indexes-dropped = miscounted from-two (droppedBelow 2) 2 refl
 
 -- and the next step is refused 22
-pub keeps-indexes-joined-unfit : FitForEver (keepsIndexes (Join 0 0 0)) → ⊥
+pub keeps-indexes-joined-unfit : FitForEver (keepsIndexes (Join 0 0 0 0)) → ⊥
 unfolding opened
 keeps-indexes-joined-unfit s = s 2 (begun two) from-two joinedBelow turn refl
 
@@ -147,7 +168,7 @@ unfolding opened
 keeps-indexes-dropped-unfit s = s 2 (begun two) from-two (droppedBelow 2) turn refl
 
 -- a panel that keeps the old type counts by it, and not by what the joins told
-pub keeps-type-counted : StoredIndex (keepsType (Join 0 0 0)) → ⊥
+pub keeps-type-counted : StoredIndex (keepsType (Join 0 0 0 0)) → ⊥
 unfolding opened
 keeps-type-counted = mistold from-two retypedBelow 2 refl
 
@@ -172,7 +193,7 @@ joins-twice-refuted = joins-again from-one [] discover secondFound (record { dis
 -- another board joins while one is looked for
 pub joins-inside-refuted : OneJoin joinsInside → ⊥
 unfolding opened
-joins-inside-refuted = joins-inside from-one [] discover [] (record { discovers = refl; taken = refl; on = refl }) refl 5 8 1 refl refl refl
+joins-inside-refuted = joins-inside from-one [] discover [] (record { discovers = refl; taken = refl; on = refl }) refl 5 8 1 2 refl refl refl
 
 -- a board with two misses that does not answer Set Address is dropped, though no message to it went unanswered
 pub misses-in-assign-refuted : WhoStays missesInAssign → ⊥
@@ -196,4 +217,4 @@ takes-no-setup-refuted = not-started takesNoSetup before one 3 1 9 4 refl refl r
 
 pub takes-no-join-refuted : TakesJoins takesNoJoin → ⊥
 unfolding opened
-takes-no-join-refuted = turned-away from-one [] 2 7 1 (record { kindFits = refl; macFits = refl; rest = refl; nothingOwed = refl; notHeld = refl; place = omega arith }) refl
+takes-no-join-refuted = turned-away from-one [] 2 7 1 2 (record { kindFits = refl; macFits = refl; rest = refl; nothingOwed = refl; notHeld = refl; fewTypes = refl; place = omega arith }) refl

@@ -30,7 +30,11 @@ abbrev pub quiet : Input
 quiet = quietWith 252
 
 abbrev pub joins : ℕ → ℕ → Input
-joins kind mac = record { event = Join kind mac 1; received = []; room = 252 }
+joins kind mac = record { event = Join kind mac 1 2; received = []; room = 252 }
+
+-- a 1.0 board (02, C-15)
+abbrev pub joinsOld : ℕ → ℕ → Input
+joinsOld kind mac = record { event = Join kind mac 1 1; received = []; room = 252 }
 
 abbrev pub hears : List ℕ → Input
 hears bytes = frameWith bytes 252
@@ -68,6 +72,10 @@ anotherBetween = missesTwice ++ request ∷ turn ∷ []
 abbrev pub otherRequest : Input
 otherRequest = hears (255 ∷ 2 ∷ 4 ∷ 0 ∷ 0 ∷ 0 ∷ 2 ∷ 1 ∷ 0 ∷ 0 ∷ 100 ∷ 231 ∷ [])
 
+-- the same in the subnet of 1.0 boards, 2 (02, C-15)
+abbrev pub oldRequest : Input
+oldRequest = hears (255 ∷ 2 ∷ 2 ∷ 0 ∷ 0 ∷ 0 ∷ 2 ∷ 1 ∷ 0 ∷ 0 ∷ 118 ∷ 215 ∷ [])
+
 abbrev pub otherBetween : List Input
 otherBetween = missesTwice ++ otherRequest ∷ []
 
@@ -95,6 +103,10 @@ joinedOnce = offeredOnce ++ quiet ∷ []
 -- it joins again after that
 abbrev pub joinsAgain : List Input
 joinsAgain = offeredOnce ++ quiet ∷ first ∷ []
+
+-- it joins again as a 1.0 board (02, C-15)
+abbrev pub cameBackOld : List Input
+cameBackOld = joinedOnce ++ joinsOld 2 7 ∷ []
 
 -- it joins again as another type, 3
 abbrev pub retyped : List Input
@@ -141,6 +153,14 @@ bothJoin = first ∷ turn ∷ quiet ∷ turn ∷ ack ∷ second ∷ []
 abbrev pub twoOffers : List Input
 twoOffers =
     turn ∷ quiet ∷ turn ∷ quiet ∷ turn ∷ ack ∷ first ∷ turn ∷ quiet ∷ turn ∷ quiet ∷ turn ∷ []
+
+-- two 1.0 boards of one type: the second of them stands in no condensed list (02, C-15)
+abbrev pub bothOld : List Input
+bothOld = joinsOld 2 7 ∷ turn ∷ quiet ∷ turn ∷ ack ∷ joinsOld 2 8 ∷ []
+
+-- a 1.0 board, then a later one of another type, 3 (02, C-15)
+abbrev pub oldAndLater : List Input
+oldAndLater = joinsOld 2 7 ∷ turn ∷ quiet ∷ turn ∷ ack ∷ joins 3 8 ∷ []
 
 -- boards without an address are looked for; the second board answers, the first one does (003, Table 58); the second board takes address 2 (003, Table 60)
 abbrev pub discover : Input

@@ -1,7 +1,7 @@
--- Wrong panels, each ours with one change: the errors that the rule book names (01, "Agreement between code and promise" and "Errors that look reasonable"), and those that discovery, retyping, stored indexes and a second system on the line make possible (02, C-11 to C-14).
+-- Wrong panels, each ours with one change: the errors that the rule book names (01, "Agreement between code and promise" and "Errors that look reasonable"), and those that discovery, retyping, stored indexes, a second system on the line and old boards make possible (02, C-11 to C-15).
 use Prim.Native.Nat.{ℕ, _+_}
 use mathlib.Core.Bool.{Bool, _&&_, not}
-use mathlib.Core.List.{List, [], map}
+use mathlib.Core.List.{List, [], _∷_, map}
 use lib.ListN.{length, getD}
 use lib.Dec.{eqb}
 use Rattle.ground.specs.Choose.{choose}
@@ -11,10 +11,14 @@ use Rattle.frame.specs.declared.Header.{Header}
 use Rattle.frame.specs.Frame.{headerOf, frameOf}
 use Rattle.board.specs.declared.Node.{Node}
 use Rattle.board.specs.declared.Wanted.the-variants.{Listed, Free}
+use Rattle.board.specs.Node.{isOld}
 use Rattle.board.specs.Table.{at, put, listedAt}
+use Rattle.board.specs.Columns.{kindsOf, versionsOf}
 use Rattle.board.specs.Wanted.{lowestOf}
 use Rattle.board.specs.Index.{indexed, numbered}
 use Rattle.board.specs.Change.{joinedNode, oweAll, relisted}
+use Rattle.nodelist.specs.Condensed.{standingTo}
+use Rattle.nodelist.specs.List.{nodeList}
 use Rattle.coordinator.specs.declared.Coordinator.{Coordinator}
 use Rattle.coordinator.specs.declared.Exchange.the-variants.{Offer}
 use Rattle.coordinator.specs.declared.Part.{Part}
@@ -29,12 +33,12 @@ use Rattle.steps.specs.Hear.{hear}
 use Rattle.steps.specs.Turn.{dueOffer, sent}
 use Rattle.steps.specs.Receive.{payload, takenIn}
 use Rattle.steps.specs.Quiet.{missedAt}
-use Rattle.series.specs.Series.{Input, World, Panel, isAccepted, offeredTo}
+use Rattle.series.specs.Series.{Input, World, Panel, isAccepted, waitsIn, waitedFor, offeredTo}
 use Rattle.series.specs.Ours.{ours}
 
 -- the steps in the rule book's order (01, "The steps are join, turn, frame and quiet"; 02, C-11: discover)
 abbrev stepNumber : Event → ℕ
-stepNumber (Join kind mac session) = 1
+stepNumber (Join kind mac session version) = 1
 stepNumber Turn = 2
 stepNumber Frame = 3
 stepNumber Quiet = 4
@@ -90,7 +94,7 @@ waitsForEver = changedAt Quiet (λ w i a. choose (roundMade (w .coordinator)) (r
 -- board p with the misses that it had before
 abbrev missesKept : List Node → List Node → ℕ → Node
 missesKept before t p =
-    record { kind = at t p .kind; mac = at t p .mac; session = at t p .session; misses = at before p .misses; owed = at t p .owed; index = at t p .index }
+    record { kind = at t p .kind; mac = at t p .mac; session = at t p .session; misses = at before p .misses; owed = at t p .owed; index = at t p .index; version = at t p .version }
 
 -- "Counting misses since joining and not since last heard": a frame does not clear the misses of the board that is waited for
 abbrev pub countsSinceJoining : Panel
@@ -139,7 +143,7 @@ joinedAnew w a = relisted (put (w .nodes) (lowestOf (w .nodes) Free (w .coordina
 
 -- against "A listed MAC has its address again" (01, "Join"): it gets the lowest free position, as a new one does
 abbrev pub listsTwice : Panel
-listsTwice = changedAt (Join 0 0 0) (λ w i a. choose (isAccepted (a .says)) (leaving a (a .coordinator) (joinedAnew w a)) a)
+listsTwice = changedAt (Join 0 0 0 0) (λ w i a. choose (isAccepted (a .says)) (leaving a (a .coordinator) (joinedAnew w a)) a)
 
 -- board p with the type that it had before, where it was listed
 abbrev typeKept : List Node → List Node → ℕ → Node
@@ -151,11 +155,43 @@ typeKept before t p =
       misses = at t p .misses;
       owed = at t p .owed;
       index = at t p .index;
+      version = at t p .version;
     }
 
 -- against "a join with a listed MAC also replaces the type" (02, C-12): in this kind of step the board that joins keeps the type on record, and every index is counted by it
 abbrev pub keepsType : Event → Panel
 keepsType event = changedAt event (λ w i a. leaving a (a .coordinator) (numbered (put (a .nodes) (a .joined) (typeKept (w .nodes) (a .nodes) (a .joined)))))
+
+-- board p with the version that it had before, where it was listed
+abbrev versionKept : List Node → List Node → ℕ → Node
+versionKept before t p =
+    record {
+      kind = at t p .kind;
+      mac = at t p .mac;
+      session = at t p .session;
+      misses = at t p .misses;
+      owed = at t p .owed;
+      index = at t p .index;
+      version = choose (listedAt before p) (at before p .version) (at t p .version);
+    }
+
+-- against "a join replaces it, as it does the type" (02, C-15): the board that joins keeps the version on record
+abbrev pub keepsVersion : Panel
+keepsVersion = changedAt (Join 0 0 0 0) (λ w i a. leaving a (a .coordinator) (put (a .nodes) (a .joined) (versionKept (w .nodes) (a .nodes) (a .joined))))
+
+-- a turn with other bytes
+abbrev writing : After → List ℕ → After
+writing a b = record { coordinator = a .coordinator; nodes = a .nodes; says = a .says; bytes = b; joined = a .joined; dropped = a .dropped }
+
+-- against "a node list sent to them may have at most 16 payload bytes" (02, C-15): every board gets the whole list, in the subnet that is its own
+abbrev pub wholeLists : Panel
+wholeLists =
+    changedAt Turn (λ w i a. choose (eqb (waitsIn (a .says)) 2) (writing a (frameOf (headerOf (a .bytes)) (nodeList (w .coordinator .setup .internal) (w .nodes)))) a)
+
+-- against "each listed type appears" (02, C-15): the list for a 1.0 board has those boards alone, by the first of 000's two scans
+abbrev pub standsOnly : Panel
+standsOnly =
+    changedAt Turn (λ w i a. choose (eqb (waitsIn (a .says)) 2 && isOld (at (w .nodes) (waitedFor (a .says)) .version)) (writing a (frameOf (headerOf (a .bytes)) (w .coordinator .setup .internal ∷ standingTo (kindsOf (w .nodes)) (versionsOf (w .nodes)) 15))) a)
 
 -- board p with the index that it had before, where it was listed, is listed and did not join
 abbrev indexKept : List Node → After → ℕ → Node
@@ -188,7 +224,7 @@ countedFromOne b = choose (eqb (length b) 0) b (frameOf (indexMore (headerOf b))
 -- against the index in parameter 2 (01, "Turn": "Own frames", and "Forward and return"): in this kind of step the frames that are written count from one, though the index on record is right (02, C-13)
 abbrev pub countsFromOne : Event → Panel
 countsFromOne event =
-    changedAt event (λ w i a. record { coordinator = a .coordinator; nodes = a .nodes; says = a .says; bytes = countedFromOne (a .bytes); joined = a .joined; dropped = a .dropped })
+    changedAt event (λ w i a. writing a (countedFromOne (a .bytes)))
 
 -- the panel is in this part of the exchange by which a board joins (02, C-11)
 abbrev isIn : Part → World → Bool
@@ -196,7 +232,7 @@ isIn part w = eqb (w .coordinator .stand .stage) (stageOf part)
 
 -- whoever answered the discovery, put on the list at the position that is now at stake
 abbrev listedAtOnce : After → List Node
-listedAtOnce a = numbered (put (a .nodes) (a .coordinator .stand .board) (joinedNode (a .coordinator .found .kind) (a .coordinator .found .mac) (a .coordinator .found .session)))
+listedAtOnce a = numbered (put (a .nodes) (a .coordinator .stand .board) (joinedNode (a .coordinator .found .kind) (a .coordinator .found .mac) (a .coordinator .found .session) (a .coordinator .found .version)))
 
 -- against "exactly one join" (02, C-11): a discovery's response joins already, and the exchange goes on
 abbrev pub joinsTwice : Panel
@@ -205,7 +241,7 @@ joinsTwice =
 
 -- against "While an exchange runs any other join gets 14" (02, C-11): a join is taken in it as at rest
 abbrev pub joinsInside : Panel
-joinsInside = changedAt (Join 0 0 0) (λ w i a. ours .step (record { coordinator = ended (w .coordinator); nodes = w .nodes }) i)
+joinsInside = changedAt (Join 0 0 0 0) (λ w i a. ours .step (record { coordinator = ended (w .coordinator); nodes = w .nodes }) i)
 
 -- against "quiet in it is a miss for no board" (02, C-11): in assign it is one for the board that has the position
 abbrev pub missesInAssign : Panel
@@ -238,4 +274,4 @@ abbrev pub takesNoSetup : Panel
 takesNoSetup = record { start = λ w addresses subnet internal mac session. refused (w .coordinator) (w .nodes) BadPool; step = ours .step }
 
 abbrev pub takesNoJoin : Panel
-takesNoJoin = changedAt (Join 0 0 0) (λ w i a. refused (w .coordinator) (w .nodes) Full)
+takesNoJoin = changedAt (Join 0 0 0 0) (λ w i a. refused (w .coordinator) (w .nodes) Full)

@@ -29,12 +29,16 @@ bool board_wish(struct board *board, const struct request *request) {
     return true;
 }
 
+/* Another system's subnet is so much above that of the board for which it answers that it is neither the panel's nor
+   the 1.0 boards'. */
+enum { ELSEWHERE = 100 };
+
 /* Another system's board has its address there, and another subnet. */
 static struct sender sender_of(struct board *board) {
     struct sender sender = {board->now.address, board->now.subnet, board->kind};
     if (board->faults.elsewhere > 0) {
         board->faults.elsewhere--;
-        sender.subnet++;
+        sender.subnet += ELSEWHERE;
     }
     return sender;
 }
@@ -46,11 +50,17 @@ static struct answer *more_answer(struct board *board) {
     return answer;
 }
 
-/* By any method; the packet number is 0, and with it the version bit (API Reference, 4.3). */
+/* The frame as a board of its version has it: the version bit is set by 1.0 boards alone (API Reference, 4.3). */
+static void set_version(const struct board *board, struct answer *answer) {
+    if (board->is_old) wire_make_old(answer->frame, answer->count);
+}
+
+/* By any method; the packet number is 0 but for the version bit. */
 static struct answer *say(struct board *board, uint8_t type, uint8_t method, uint8_t parameter, const uint8_t *payload,
                           size_t count) {
     struct answer *answer = more_answer(board);
     answer->count = wire_frame(answer->frame, sender_of(board), type, 0, method, parameter, payload, count);
+    set_version(board, answer);
     return answer;
 }
 
@@ -61,6 +71,7 @@ void board_say(struct board *board, uint8_t type, const uint8_t *payload, size_t
 static void say_ack(struct board *board) {
     struct answer *answer = more_answer(board);
     answer->count = wire_ack(answer->frame, sender_of(board), board->mac, board->now.session);
+    set_version(board, answer);
 }
 
 static void drop_request(struct memory *now) {
@@ -120,12 +131,18 @@ static void take_request(struct board *board, const uint8_t *frame) {
         echo ? frame + AT_PAYLOAD : confirmed, echo ? frame[AT_LENGTH] : sizeof confirmed);
 }
 
+/* To a node list: the same. A 1.0 board takes none of another length (Networking Specification, 8.1.2.4). */
+static void take_list(struct board *board, const uint8_t *frame) {
+    if (board->is_old && frame[AT_LENGTH] != OLD_LIST) return;
+    board_say(board, TYPE_LIST + TYPE_RESPONSE, frame + AT_PAYLOAD, frame[AT_LENGTH]);
+}
+
 /* To anything but an offer: what it had still to say is not awaited any more (Networking Specification, 11.14, c). */
 static void take_other(struct board *board, const uint8_t *frame) {
     uint8_t type = frame[AT_TYPE];
     board->now.answers_waiting = 0;
     if (type == TYPE_LIST) {
-        board_say(board, TYPE_LIST + TYPE_RESPONSE, frame + AT_PAYLOAD, frame[AT_LENGTH]);
+        take_list(board, frame);
     } else if (type == TYPE_IDENTIFY) {
         say_ack(board);
         client_identify(board);

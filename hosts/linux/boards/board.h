@@ -49,6 +49,7 @@ struct board {
     char name[BOARD_NAME];
     uint8_t kind;
     uint64_t mac;
+    bool is_old;     /* it speaks 1.0 */
     uint64_t chance; /* its pseudorandom numbers */
     bool plugged, powered;
     struct memory now;

@@ -31,11 +31,17 @@ void client_answer(struct board *board) {
     board_say(board, TYPE_DISCOVER + TYPE_RESPONSE, payload, sizeof payload);
 }
 
+/* Whether it can have this address: the panel's own is none to give, and a 1.0 board knows one subnet. */
+static bool can_have(const struct board *board, uint8_t address, uint8_t subnet) {
+    if (address == 0) return true; /* it is to have none */
+    return address != WIRE_PANEL && (!board->is_old || subnet == OLD_SUBNET);
+}
+
 void client_take(struct board *board, const uint8_t *frame, uint64_t at) {
     struct memory *now = &board->now;
     const uint8_t *payload = frame + AT_PAYLOAD;
     if (!wire_assigns(frame, board->mac, now->session)) return;
-    if (payload[ASSIGN_ADDRESS] == WIRE_PANEL) return; /* the panel's own is none to give */
+    if (!can_have(board, payload[ASSIGN_ADDRESS], payload[ASSIGN_SUBNET])) return;
     if (board->faults.deaf > 0) {
         board->faults.deaf--;
         return;

@@ -15,7 +15,8 @@ void client_hold_back(struct board *board);
 /* The slot delay is over and the line was silent: type, MAC and session. */
 void client_answer(struct board *board);
 
-/* It has heard Set Address: where it is meant, it takes the address, and answers from there with the same payload. */
+/* It has heard Set Address: where it is meant, it takes the address, and answers from there with the same payload. A
+   1.0 board takes none in another subnet than its own. */
 void client_take(struct board *board, const uint8_t *frame, uint64_t at);
 
 /* It gives its ID: type, MAC and session. */

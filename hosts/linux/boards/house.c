@@ -29,10 +29,11 @@ void house_start(struct house *house, const struct options *options) {
         const char *name;
         uint8_t kind;
         uint64_t mac;
+        bool is_old;
     } first[] = {
-        {"thermostat", 1, 0x1A2B00000101},
-        {"furnace", FURNACE, 0x1A2B00000202},
-        {"heatpump", 5, 0x1A2B00000505},
+        {"thermostat", 1, 0x1A2B00000101, false},
+        {"furnace", FURNACE, 0x1A2B00000202, true},
+        {"heatpump", 5, 0x1A2B00000505, false},
     };
     pace_begin(&house->pace, options->faster);
     ear_start(&house->ear, options->faster);
@@ -40,6 +41,7 @@ void house_start(struct house *house, const struct options *options) {
     house->seed = options->seed;
     for (unsigned i = 0; i < sizeof first / sizeof *first; i++) {
         struct board *board = house_add(house, first[i].name, first[i].kind, first[i].mac);
+        board->is_old = first[i].is_old;
         board->plugged = !options->empty;
         if (!options->empty) board_power_up(board);
     }

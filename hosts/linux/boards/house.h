@@ -35,10 +35,10 @@ struct house {
     bool ended;            /* by an order */
 };
 
-/* Puts the first three boards into the house, whose terminal is open. */
+/* Puts the first three boards into the house, whose terminal is open. The furnace speaks 1.0. */
 void house_start(struct house *house, const struct options *options);
 
-/* A new board, unplugged and without power; NULL where the house is full. */
+/* A new board, unplugged and without power, that speaks 2.0; NULL where the house is full. */
 struct board *house_add(struct house *house, const char *name, uint8_t kind, uint64_t mac);
 
 /* The board of that name, or NULL. */

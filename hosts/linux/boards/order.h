@@ -16,6 +16,7 @@ void order_plug(struct house *house, const struct order *order);
 void order_unplug(struct house *house, const struct order *order);
 void order_power(struct house *house, const struct order *order);
 void order_jumper(struct house *house, const struct order *order);
+void order_version(struct house *house, const struct order *order);
 void order_deaf(struct house *house, const struct order *order);
 void order_elsewhere(struct house *house, const struct order *order);
 void order_noise(struct house *house, const struct order *order);

@@ -1,4 +1,4 @@
-/* Orders about the wire, the power and the jumpers of boards. */
+/* Orders about the wire, the power, the jumpers and the versions of boards. */
 #include "names.h"
 #include "number.h"
 #include "order.h"
@@ -93,12 +93,26 @@ void order_power(struct house *house, const struct order *order) {
     tell("ok %s has %s%s", board->name, on ? "power" : "no power", already);
 }
 
+/* What it is now has changed: where it has power, it starts anew. What becomes of it. */
+static const char *start_anew(struct house *house, struct board *board) {
+    house_cut(house, board);
+    if (!board->powered) return "has no power";
+    board_power_up(board);
+    return "starts anew";
+}
+
 void order_jumper(struct house *house, const struct order *order) {
     struct board *board = order_board(house, order->words[1]);
     unsigned kind;
     if (!board || !order_number("TYPE", order->words[2], 1, TYPE_MOST, &kind)) return;
-    house_cut(house, board);
     board->kind = (uint8_t)kind;
-    if (board->powered) board_power_up(board);
-    tell("ok %s is of type %u now, and %s", board->name, kind, board->powered ? "starts anew" : "has no power");
+    tell("ok %s is of type %u now, and %s", board->name, kind, start_anew(house, board));
+}
+
+void order_version(struct house *house, const struct order *order) {
+    struct board *board = order_board(house, order->words[1]);
+    unsigned version;
+    if (!board || !order_number("VERSION", order->words[2], 1, 2, &version)) return;
+    board->is_old = version == 1;
+    tell("ok %s speaks %u.0 now, and %s", board->name, version, start_anew(house, board));
 }

@@ -35,6 +35,7 @@ static const struct {
      "it has these settings stored for its type in the network, at its next offer"},
     {"fetch", 2, 2, order_fetch, "fetch NAME", "it asks for the settings of its type at its next offer"},
     {"jumper", 3, 3, order_jumper, "jumper NAME TYPE", "its type is another, and it starts anew"},
+    {"version", 3, 3, order_version, "version NAME 1|2", "it speaks 1.0, or 2.0, and starts anew"},
     {"boards", 1, 1, order_boards, "boards", "a line for each board"},
     {"help", 1, 1, order_help, "help", "these lines"},
     {"quit", 1, 1, order_quit, "quit", "the end"},

@@ -76,7 +76,7 @@ mod tests {
 
     #[test]
     fn the_line_answered_is_found_past_tables_and_comments() {
-        let script = b"setup 3 1 5 6 16\n# a comment\njoin 2 7 8\ntable\nquiet\n";
+        let script = b"setup 3 1 5 6 16\n# a comment\njoin 2 7 8 2\ntable\nquiet\n";
         let answered = |answer| Difference { answer, ours: None, reference: None };
         let line = |answer| answered(answer).script_line(Sort::Script, script);
         assert_eq!([line(1), line(2), line(3), line(4), line(5)], [1, 3, 4, 4, 5]);

@@ -3,7 +3,6 @@
 use super::discoveries;
 use super::required::named;
 use super::retypings::retyped;
-use crate::frame;
 use crate::language;
 use crate::line::{Kind, Line};
 use crate::panel::Panel;
@@ -172,7 +171,7 @@ pub fn bytes_of(line: &str) -> Vec<u8> {
 /// one there.
 pub fn request(panel: &Panel, line: &str) -> Option<(u8, u8)> {
     let bytes = bytes_of(line);
-    let frame = frame::read(&bytes, panel.coordinator.subnet).ok()?;
+    let frame = panel.read(&bytes).ok()?;
     (1..=127).contains(&frame.message_type).then_some((frame.method, frame.parameter1))
 }
 

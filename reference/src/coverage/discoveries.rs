@@ -2,10 +2,10 @@
 
 use super::cases::{bytes_of, due, step, waiting};
 use super::retypings::retyped;
-use crate::frame::{self, Fields, COORDINATOR_TYPE};
+use crate::frame::{Fields, COORDINATOR_TYPE};
 use crate::panel::{Panel, CODE_ACK, R2R_LENGTH, RESPONSE, TYPE_R2R};
 use crate::panel::{DISCOVERED_LENGTH, IDENTIFIED_LENGTH, TYPE_DISCOVERED, TYPE_IDENTIFIED};
-use crate::state::{self, Coordinator, Exchange, Phase};
+use crate::state::{self, Exchange, Phase};
 
 /// Where a discovery stands; none if none runs.
 pub fn stage(panel: &Panel) -> Option<&'static str> {
@@ -56,7 +56,7 @@ fn begun(before: &Panel) -> &'static str {
 /// A response of the exchange where none runs.
 fn outside(before: &Panel, line: &str, head: &str) -> Option<String> {
     let bytes = bytes_of(line);
-    let frame = frame::read(&bytes, before.coordinator.subnet).ok()?;
+    let frame = before.read(&bytes).ok()?;
     let response = (TYPE_DISCOVERED..=TYPE_IDENTIFIED).contains(&frame.message_type);
     let judged = ["refuse 23", "refuse 6", "transmit"].contains(&head);
     let name = format!("0x{:02X}", frame.message_type);
@@ -106,14 +106,13 @@ fn quiet_how(before: &Panel) -> &'static str {
 
 fn frame_how(before: &Panel, line: &str, head: &str, after: &Panel) -> &'static str {
     let bytes = bytes_of(line);
-    let Coordinator { subnet, phase, .. } = &before.coordinator;
-    let (frame, wait) = match (frame::read(&bytes, *subnet), phase.awaited()) {
+    let (frame, wait) = match (before.read(&bytes), before.coordinator.phase.awaited()) {
         (Ok(frame), Some(wait)) => (frame, wait),
         _ => return "",
     };
     match (wait, head) {
         (_, "refuse 7") => refused_how(wait.1, &frame),
-        ((_, Exchange::Search), "rest") => told_how(before, frame.payload[0], mac(&frame)),
+        ((_, Exchange::Search), "rest") => found_how(before, &frame, after),
         ((at, _), "wait identify 0") => heard_how(before, at, mac(&frame)),
         ((at, _), "transmit joined") => joined_how(before, at, after),
         ((at, _), "transmit") => broken_how(before, at, &frame, after),
@@ -168,6 +167,15 @@ fn told_how(before: &Panel, node_type: u8, mac: u64) -> &'static str {
     }
 }
 
+/// Whom a search found; where nothing but 25 can have broken it off, that.
+fn found_how(before: &Panel, frame: &Fields<&[u8]>, after: &Panel) -> &'static str {
+    match (told_how(before, frame.payload[0], mac(frame)), &after.coordinator.phase) {
+        ("a new MAC", Phase::Idle) => "too many types, a new MAC",
+        ("a listed MAC", Phase::Idle) => "too many types, a listed MAC",
+        (told, _) => told,
+    }
+}
+
 fn heard_how(before: &Panel, at: usize, mac: u64) -> &'static str {
     match before.record(at) {
         record if !record.listed() => "a free address",
@@ -182,7 +190,10 @@ fn heard_how(before: &Panel, at: usize, mac: u64) -> &'static str {
 fn broken_how(before: &Panel, at: usize, frame: &Fields<&[u8]>, after: &Panel) -> &'static str {
     let missed = before.record(at).misses > 0;
     let heard = missed && after.record(at).misses == 0;
-    match told_how(before, frame.payload[0], mac(frame)) {
+    let mac = mac(frame);
+    match told_how(before, frame.payload[0], mac) {
+        "a new MAC" if !before.record(at).listed() => "too many types, a new MAC",
+        "a listed MAC" if before.record(at).mac == mac => "too many types, a listed MAC",
         "type 0" | "type 165" if heard => "a bad type, but its misses are cleared",
         "a listed MAC" if missed => "listed at another position, the misses stay",
         "a listed MAC" => "listed at another position",
@@ -223,7 +234,7 @@ mod tests {
             "setup 3 21 4886718345 1001 16 17 18 19 20",
             "frame 64 FF100300000002FB00110265000000000000000100000000000000507A",
             "discover 13",
-            "join 2 101 1",
+            "join 2 101 1 2",
             "frame 0 FF000000000002F90012020065000000000000000100000000000000AC32",
             "turn 11",
             "turn 12",

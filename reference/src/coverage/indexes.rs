@@ -35,10 +35,12 @@ impl Indexes {
     }
 }
 
-/// The position in a row of a table whose last number is above 0.
+/// The position in a row of a table whose index, the last number but one, is above
+/// 0.
 fn above_0(row: &str) -> Option<usize> {
-    let (position, rest) = row.split_once(' ')?;
-    position.parse().ok().filter(|_| !rest.ends_with(" 0"))
+    let words: Vec<&str> = row.split(' ').collect();
+    let [position, index] = [words.first()?, words.iter().nth_back(1)?];
+    position.parse().ok().filter(|_| *index != "0")
 }
 
 /// What a step did to the index of the board that its answer names as the last
@@ -92,17 +94,17 @@ mod tests {
             [new, lowered].map(|case| format!("a table showed that {case}"));
         let expected: [(&str, &[&str]); 12] = [
             ("setup 3 1 9 1 16 17 18 19", &[]),
-            ("join 2 1 1", &[]),
+            ("join 2 1 1 2", &[]),
             ("table", &[]),
-            ("join 2 2 1", &[new]),
+            ("join 2 2 1 2", &[new]),
             ("table", &[&new_shown]),
             ("table", &[]),
-            ("join 2 3 1", &[new]),
-            ("join 2 3 1", &[same]),
-            ("join 5 1 1", &[lowered, lowered]),
+            ("join 2 3 1 2", &[new]),
+            ("join 2 3 1 2", &[same]),
+            ("join 5 1 1 2", &[lowered, lowered]),
             // the second board's is 0 now
             ("table", &[&lowered_shown]),
-            ("join 2 1 1", &[raised, raised]),
+            ("join 2 1 1 2", &[raised, raised]),
             ("setup 3 1 9 1 16 17 18 19", &[]),
         ];
         for (line, cases) in expected {
@@ -114,13 +116,13 @@ mod tests {
     #[test]
     fn a_drop_lowers_and_a_join_in_its_place_raises() {
         let (mut player, mut indexes) = (Player::default(), Indexes::default());
-        for line in ["setup 3 1 9 1 16 17", "join 2 1 1", "join 2 2 1", "turn 64"] {
+        for line in ["setup 3 1 9 1 16 17", "join 2 1 1 2", "join 2 2 1 2", "turn 64"] {
             play(&mut player, &mut indexes, line);
         }
         player.panel.records[0].misses = 2;
         let dropped = play(&mut player, &mut indexes, "quiet");
         assert_eq!(dropped, ["a drop lowered the index of another board"]);
-        let joined = play(&mut player, &mut indexes, "join 2 3 1");
+        let joined = play(&mut player, &mut indexes, "join 2 3 1 2");
         assert_eq!(joined, ["a join of a new board (join) raised the index of another board"]);
     }
 }

@@ -2,9 +2,8 @@
 
 use crate::line::Kind;
 
-/// The pools a script goes through, by number of addresses; large and small
-/// ones by turns, so that a setup has old records to clear.
-pub const POOL_SIZES: [usize; 7] = [3, 40, 1, 15, 2, 39, 8];
+/// The pools that scripts go through, by number of addresses.
+pub const POOL_SIZES: [usize; 8] = [1, 2, 3, 8, 15, 17, 39, 40];
 
 const WAITS: [&str; 4] = ["offer", "list", "forward", "return"];
 /// The waits of a discovery.
@@ -13,7 +12,7 @@ const SEEKING: [&str; 3] = ["search", "identify", "assign"];
 /// dues.
 const STAGES: [&str; 6] =
     ["search", "identify due", "identify", "identify, acknowledged", "assign due", "assign"];
-const STAGE_WAITS: [&str; 4] = ["search", "identify", "identify, acknowledged", "assign"];
+pub const STAGE_WAITS: [&str; 4] = ["search", "identify", "identify, acknowledged", "assign"];
 const STAGE_DUES: [&str; 2] = ["identify due", "assign due"];
 /// The waits in which a board can miss for the third time.
 const DROPS: [&str; 3] = ["offer", "list", "forward"];
@@ -53,7 +52,7 @@ pub fn answers() -> Vec<String> {
 
 /// The numbers that there are; 17 is retired (C-23).
 pub fn numbers() -> impl Iterator<Item = u8> {
-    (1..=16).chain(18..=24)
+    (1..=16).chain(18..=25)
 }
 
 pub fn refusals() -> Vec<String> {
@@ -311,7 +310,7 @@ fn indexes() -> Vec<String> {
 }
 
 /// What each wait takes, an acknowledged one by itself, as it is answered.
-const TAKEN: [(&str, &[&str]); 9] = [
+pub const TAKEN: [(&str, &[&str]); 9] = [
     ("offer", &["rest", "deliver", "transmit"]),
     ("list", &["transmit"]),
     ("forward", &["wait forward 0", "transmit"]),
@@ -324,7 +323,7 @@ const TAKEN: [(&str, &[&str]); 9] = [
 ];
 
 /// The numbers that come after 24, where a frame can get them.
-const AFTER_24: [(&str, &[u8]); 15] = [
+pub const AFTER_24: [(&str, &[u8]); 15] = [
     ("offer", &[5, 23, 6, 7, 9, 11]),
     ("list", &[5, 23, 6, 7, 8, 11]),
     ("forward", &[5, 23, 6, 7, 11]),

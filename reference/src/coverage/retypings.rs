@@ -35,7 +35,7 @@ impl Retypings {
             "rest dropped" => self.boards.retain(|board| after.position_of(board.mac).is_some()),
             "rest joined" | "transmit joined" => self.note_join(before, after),
             "wait list" => return self.note_list(),
-            "transmit" => return self.note_request(line, after),
+            "transmit" => return self.note_request(before, line, after),
             _ => (),
         }
         Vec::new()
@@ -60,10 +60,10 @@ impl Retypings {
 
     /// Sees where a request by type goes: to a retyped board, or to nobody
     /// because its board has another type now.
-    fn note_request(&self, line: &str, after: &Panel) -> Vec<String> {
+    fn note_request(&self, before: &Panel, line: &str, after: &Panel) -> Vec<String> {
         let retyped = |at| self.boards.iter().any(|board| board.mac == after.record(at).mac);
         let had = |kind| self.boards.iter().any(|board| board.was == kind);
-        match (&after.coordinator.phase, request(after, line)) {
+        match (&after.coordinator.phase, request(before, line)) {
             (Phase::ForwardDue { to, .. }, Some((method @ (1 | 2), _))) if retyped(*to) => {
                 vec![format!("a request of method {method} was passed on to a retyped board")]
             }
@@ -89,6 +89,7 @@ mod tests {
         for (place, &node_type) in types.iter().enumerate() {
             panel.records[place].node_type = node_type;
             panel.records[place].mac = 1 + place as u64;
+            panel.records[place].version = 2;
         }
         panel
     }
@@ -112,8 +113,8 @@ mod tests {
         let nothing = Vec::<String>::new();
         assert_eq!(asked(&mut retypings, &before, 2, 2), nothing);
         let mut after = before.clone();
-        after.join(3, 1, 0).unwrap();
-        let joined = retypings.note(&before, "join 3 1 0", "rest joined", &after);
+        after.join(3, 1, 0, 2).unwrap();
+        let joined = retypings.note(&before, "join 3 1 0 2", "rest joined", &after);
         assert_eq!(joined, nothing);
         let mut list = || retypings.note(&after, "turn 64", "wait list", &after);
         assert_eq!(list(), ["a list told of a retyping (join)"]);
@@ -133,7 +134,7 @@ mod tests {
         let (mut retypings, before) = (Retypings::default(), with(&[2, 1]));
         for (node_type, count) in [(2, 0), (3, 1)] {
             let mut after = before.clone();
-            after.join(node_type, 1, 0).unwrap();
+            after.join(node_type, 1, 0, 2).unwrap();
             retypings.note(&before, "join", "rest joined", &after);
             assert_eq!(retypings.boards.len(), count);
         }

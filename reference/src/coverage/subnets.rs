@@ -3,7 +3,7 @@
 
 use super::cases::{bytes_of, due, head, step};
 use crate::checksum;
-use crate::frame::{self, ALL_SUBNETS};
+use crate::frame::ALL_SUBNETS;
 use crate::language::hex;
 use crate::panel::Panel;
 use crate::script::Player;
@@ -63,7 +63,9 @@ impl Subnets {
             cases.push(format!("frame in {place} after one of another subnet: taken"));
         }
         match (before.coordinator.subnet, bytes_of(line)[2]) {
-            (ALL_SUBNETS, _) => cases.push(format!("subnet 0 in {place}, ours is 0: taken")),
+            (ALL_SUBNETS, ALL_SUBNETS) => {
+                cases.push(format!("subnet 0 in {place}, ours is 0: taken"))
+            }
             (_, ALL_SUBNETS) => cases.push(format!("subnet 0 in {place}: {head}")),
             _ => (),
         }
@@ -117,7 +119,7 @@ fn beside(ours: u8, other: u8) -> &'static str {
 }
 
 /// The wait that a frame comes in, an acknowledged one by itself, or what is due.
-fn place(panel: &Panel) -> String {
+pub fn place(panel: &Panel) -> String {
     match panel.coordinator.phase.awaited() {
         Some((_, exchange)) => {
             let acked = match exchange {
@@ -133,7 +135,7 @@ fn place(panel: &Panel) -> String {
 
 /// The answer to the same line with our subnet in its frame, and check bytes
 /// that fit.
-fn otherwise(before: &Panel, bytes: &[u8], line: &str) -> String {
+pub fn otherwise(before: &Panel, bytes: &[u8], line: &str) -> String {
     let mut bytes = bytes.to_vec();
     bytes[2] = before.coordinator.subnet;
     let body = bytes.len() - 2;
@@ -152,7 +154,7 @@ fn other_number(before: &Panel, line: &str, head: &str) -> Vec<String> {
     let ours = before.coordinator.subnet;
     let early = ["refuse 1", "refuse 2", "refuse 3", "refuse 4"].contains(&head);
     match bytes_of(line).get(2) {
-        Some(&subnet) if early && !frame::takes(ours, subnet) => {
+        Some(&subnet) if early && !before.takes(subnet) => {
             vec![format!("another subnet: {head}")]
         }
         Some(&ALL_SUBNETS) if !early && ours != ALL_SUBNETS => {
@@ -171,7 +173,7 @@ mod tests {
     fn with_board(subnet: u8) -> (Player, Subnets) {
         let mut player = Player::default();
         player.play(format!("setup {subnet} 1 9 1 16 17").as_bytes());
-        player.play(b"join 2 7 8");
+        player.play(b"join 2 7 8 2");
         player.panel.records[0].owed = false;
         (player, Subnets::default())
     }

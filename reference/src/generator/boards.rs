@@ -1,6 +1,5 @@
 //! What boards send: each has its habits.
 
-use super::joins::TYPES;
 use super::{frame_text, Generator, Mode};
 use crate::draft::Draft;
 use crate::frame::{COORDINATOR, MAX_PAYLOAD};
@@ -102,7 +101,7 @@ impl Generator<'_> {
             Exchange::Offer if self.rng.chance(acks) => self.own_ack(board),
             Exchange::Offer => self.request(board),
             Exchange::List => {
-                let list = self.panel().node_list();
+                let list = self.panel().list_to(board);
                 self.draft(board, TYPE_ECHO, list)
             }
             Exchange::Forward { acked: false, .. } if self.rng.chance(60) => self.own_ack(board),
@@ -124,7 +123,7 @@ impl Generator<'_> {
         Draft {
             destination: COORDINATOR,
             source: self.source_of(board),
-            subnet: self.taken_subnet(),
+            subnet: self.spoken_subnet(board),
             method: self.rng.pick(&[0, 0, 1, 2, 3]),
             parameter1: self.rng.byte(),
             parameter2: self.rng.pick(&[0, 0, 0, odd]),
@@ -189,7 +188,7 @@ impl Generator<'_> {
             1 => self.rng.pick(&[100, 101, 102, 103, 104, 105, 100, 101, 99, 106, any]),
             2 => {
                 // perhaps one that a board had before it came back
-                let some = self.rng.pick(&TYPES);
+                let some = self.any_type();
                 self.rng.pick(&[other, other, other, other, other, own, some, some, 0, 165, any])
             }
             3 => {

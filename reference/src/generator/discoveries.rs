@@ -1,12 +1,13 @@
 //! Discoveries: when the host starts one, who answers it, and what goes wrong.
 
 use super::boards::ACK_LENGTH;
-use super::joins::TYPES;
+use super::joins::AT_THE_LIMIT;
 use super::{Generator, Mode};
 use crate::draft::Draft;
 use crate::line::{Kind, Line};
 use crate::panel::{TYPE_ADDRESSED, TYPE_DISCOVERED, TYPE_IDENTIFIED, UNADDRESSED};
 use crate::state::{Exchange, Identity, Phase};
+use crate::version::{OLD, PACKET_VERSION};
 
 /// The length of a discovery's request.
 const REQUEST_LENGTH: usize = 13;
@@ -53,12 +54,15 @@ impl Generator<'_> {
         self.answer_line(at, exchange)
     }
 
-    /// A Node Discovery Response.
+    /// A Node Discovery Response; one bit of its packet number tells the version.
     pub(super) fn discovered(&mut self) -> Draft {
         let board = self.unaddressed();
         let reserved = self.rng.byte();
         let payload = told(&[board.node_type, reserved], &board, &[]);
-        Draft { source: UNADDRESSED, ..self.draft(1, TYPE_DISCOVERED, payload) }
+        let draft = self.draft(1, TYPE_DISCOVERED, payload);
+        let version = if board.version == OLD { PACKET_VERSION } else { 0 };
+        let packet = draft.packet & !PACKET_VERSION | version;
+        Draft { source: UNADDRESSED, packet, ..draft }
     }
 
     /// A Get Node ID Response.
@@ -80,8 +84,8 @@ impl Generator<'_> {
     }
 
     pub(super) fn address_echo(&self, at: usize, found: &Identity) -> Vec<u8> {
-        let (address, subnet) = (self.panel().address(at), self.panel().coordinator.subnet);
-        told(&[address, subnet], found, &[1])
+        let subnet = self.panel().subnet_of_version(found.version);
+        told(&[self.panel().address(at), subnet], found, &[1])
     }
 
     /// Who answers a search; now and then one that could not join.
@@ -97,6 +101,9 @@ impl Generator<'_> {
     /// back as something else (C-12).
     fn seeker(&mut self) -> Identity {
         let new = self.newcomer();
+        if self.many_types() && self.rng.chance(AT_THE_LIMIT) {
+            return self.seeker_at_the_limit(new);
+        }
         // the last free position is kept for a while, or no discovery could start
         let listed = match self.mode {
             Mode::Calm => 5,
@@ -116,12 +123,29 @@ impl Generator<'_> {
         new
     }
 
+    /// Where the types are many (C-15), one who makes them too many, or who may only
+    /// do so once his address has answered.
+    fn seeker_at_the_limit(&mut self, new: Identity) -> Identity {
+        let (node_type, mac, version) = self.at_the_limit();
+        let own = self.panel().position_of(mac).map(|at| self.panel().record(at).node_type);
+        let node_type = self.rng.pick(&[node_type, own.unwrap_or(node_type)]);
+        Identity { node_type, mac, version, ..new }
+    }
+
     /// Who sits at the address at stake: its listed board or the one that was
     /// found, as it was or as something else, somebody new, one that is listed
     /// elsewhere, or a misfit.
     fn holder(&mut self, at: usize) -> Identity {
         let (new, here, other) = (self.newcomer(), self.rightful(at), self.any_other(at));
         let elsewhere = self.panel().record(other).listed();
+        if self.many_types() && self.rng.chance(AT_THE_LIMIT) {
+            let node_type = self.unlisted_type();
+            return Identity {
+                node_type,
+                mac: self.rng.pick(&[here.mac, here.mac, new.mac]),
+                ..new
+            };
+        }
         match self.rng.below(18) {
             0 | 1 => self.misfit(new),
             2..=4 => Identity { node_type: self.rng.pick(&[0, 165]), ..here },
@@ -142,13 +166,14 @@ impl Generator<'_> {
     }
 
     fn identity_at(&self, board: usize) -> Identity {
-        let record = self.panel().record(board);
-        Identity { node_type: record.node_type, mac: record.mac, session: record.session }
+        let record = *self.panel().record(board);
+        let (node_type, version) = (record.node_type, record.version);
+        Identity { node_type, mac: record.mac, session: record.session, version }
     }
 
     fn newcomer(&mut self) -> Identity {
-        let (mac, session) = (self.any_mac(), self.any_session());
-        Identity { node_type: self.rng.pick(&TYPES), mac, session }
+        let (node_type, version) = (self.any_type(), self.any_version());
+        Identity { node_type, mac: self.any_mac(), session: self.any_session(), version }
     }
 
     /// One whose join 12 or 13 would refuse.
@@ -174,7 +199,7 @@ impl Generator<'_> {
 
     /// What goes wrong in a wait of the exchange.
     pub(super) fn discovery_mishap(&mut self, at: usize, exchange: Exchange) -> Line {
-        match self.rng.below(33) {
+        match self.rng.below(38) {
             0 => self.cut_line(at, exchange),
             1 => self.over_long_line(at, exchange),
             2 => self.longer_line(at, exchange),
@@ -184,7 +209,7 @@ impl Generator<'_> {
             7 => self.unexpected_line(at, exchange),
             8 => self.no_ack_line(at),
             9 => self.new_mac_line(at),
-            10 => self.other_echo_line(at, exchange),
+            10 | 33 | 34 => self.other_echo_line(at, exchange),
             11 => self.other_length_line(at, exchange),
             12..=14 => self.narrow_line(at, exchange),
             15 => self.turn_line(),

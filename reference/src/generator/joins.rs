@@ -3,8 +3,8 @@
 use super::{Generator, Mode};
 use crate::line::{Kind, Line};
 
-/// Node types of the boards; several of a kind, so that indexes differ.
-pub(super) const TYPES: [u8; 12] = [1, 2, 2, 3, 4, 5, 5, 9, 21, 12, 24, 255];
+/// Of a hundred joins where the types are many, so many are at their limit (C-15).
+pub(super) const AT_THE_LIMIT: usize = 50;
 
 impl Generator<'_> {
     pub(super) fn idle_line(&mut self) -> Line {
@@ -20,6 +20,7 @@ impl Generator<'_> {
             _ if self.panel().coordinator.held => 1,
             _ if nobody => 75,
             Mode::Calm if !self.full() => 85,
+            _ if self.many_types() => 30,
             _ if self.free() == 1 => 3,
             _ => 2 + 24 / self.panel().coordinator.pool.len(),
         };
@@ -32,11 +33,14 @@ impl Generator<'_> {
     /// A new board, one that was dropped, or one that is listed and mostly comes
     /// back as something else (C-12).
     pub(super) fn join_line(&mut self) -> Line {
+        if self.many_types() && self.rng.chance(AT_THE_LIMIT) {
+            return self.limit_line();
+        }
         let back = if self.mode == Mode::Calm { 4 } else { 35 };
         if self.rng.chance(back) {
             if let Some(board) = self.any_listed() {
                 let mac = self.panel().record(board).mac;
-                let node_type = self.rng.pick(&TYPES);
+                let node_type = self.any_type();
                 return Line::new(Kind::ComesBack, self.join_of(node_type, mac));
             }
         }
@@ -45,13 +49,27 @@ impl Generator<'_> {
             let (node_type, mac) = self.away[place];
             return Line::new(Kind::Rejoins, self.join_of(node_type, mac));
         }
-        let node_type = self.rng.pick(&TYPES);
-        let mac = self.any_mac();
+        let (node_type, mac) = (self.any_type(), self.any_mac());
         Line::plain(self.join_of(node_type, mac))
     }
 
+    /// Refused by 25, or just not.
+    fn limit_line(&mut self) -> Line {
+        let (node_type, mac, version) = self.at_the_limit();
+        let listed = self.panel().position_of(mac).is_some();
+        let kind = if listed { Kind::ComesBack } else { Kind::Plain };
+        Line::new(kind, self.join_as(node_type, mac, version))
+    }
+
+    /// As one of the boards of this house.
     pub(super) fn join_of(&mut self, node_type: u8, mac: u64) -> String {
-        format!("join {node_type} {mac} {}", self.any_session())
+        let version = self.any_version();
+        self.join_as(node_type, mac, version)
+    }
+
+    fn join_as(&mut self, node_type: u8, mac: u64, version: u8) -> String {
+        let (session, byte) = (self.any_session(), self.version_byte(version));
+        format!("join {node_type} {mac} {session} {byte}")
     }
 
     /// A turn with room enough; the length due is learnt from a copy.
@@ -92,7 +110,7 @@ impl Generator<'_> {
     }
 
     fn bad_mac_join(&mut self) -> Line {
-        let (node_type, mac) = (self.rng.pick(&TYPES), self.bad_mac());
+        let (node_type, mac) = (self.any_type(), self.bad_mac());
         Line::plain(self.join_of(node_type, mac))
     }
 

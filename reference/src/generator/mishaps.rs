@@ -9,7 +9,7 @@ use crate::state::Exchange;
 
 impl Generator<'_> {
     pub(super) fn wait_mishap(&mut self, board: usize, exchange: Exchange) -> Line {
-        match self.rng.below(36) {
+        match self.rng.below(39) {
             0 => self.cut_line(board, exchange),
             1 => self.over_long_line(board, exchange),
             2 => self.longer_line(board, exchange),
@@ -166,17 +166,19 @@ impl Generator<'_> {
         self.frame_line(Kind::OtherEcho, &bytes)
     }
 
-    /// The list or the address that was sent, but for one place.
+    /// The list or the address that was sent, but for one place, or as it is sent
+    /// to a board of another version.
     pub(super) fn other_echo(&mut self, board: usize, exchange: Exchange) -> Vec<u8> {
         let mut echo = match exchange {
             Exchange::Assign { found } => self.address_echo(board, &found),
-            _ => self.panel().node_list(),
+            _ => self.panel().list_to(board),
         };
         let at = self.rng.below(echo.len());
-        match self.rng.below(5) {
+        match self.rng.below(8) {
             0 => echo.push(0),
             1 => echo.truncate(echo.len() - 1),
             2 | 3 => echo[at] ^= 1,
+            4..=6 => return self.of_other_version(board, exchange, echo),
             _ => echo.clear(),
         }
         echo

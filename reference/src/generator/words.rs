@@ -5,7 +5,7 @@ use super::Generator;
 use crate::language::hex;
 use crate::line::Line;
 
-const BAD_LINES: [&str; 39] = [
+const BAD_LINES: [&str; 43] = [
     "turn",
     "turn 1025",
     "turn -1",
@@ -16,12 +16,16 @@ const BAD_LINES: [&str; 39] = [
     "Turn 64",
     "turn 64 64",
     "turn 99999999999999999999999999",
-    "join 256 5 5",
-    "join 5 18446744073709551616 1",
-    "join 5 1 18446744073709551616",
+    "join 256 5 5 2",
+    "join 5 18446744073709551616 1 2",
+    "join 5 1 18446744073709551616 2",
     "join 5 1",
-    "join 5 1 1 1",
-    "join -5 1 1",
+    "join 5 1 1",
+    "join 5 1 1 256",
+    "join 5 1 1 2 2",
+    "join 5 1 1 1.0",
+    "join 5 1 1 -1",
+    "join -5 1 1 2",
     "discover",
     "discover 1025",
     "discover 64 00",

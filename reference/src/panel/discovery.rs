@@ -1,12 +1,14 @@
 //! The AutoNet exchange (C-11; 000, 11.10 and 11.11): discover asks who has no
 //! address, Get Node ID asks whether the address at stake is free, Set Address
-//! gives it away. It ends with one join, or it breaks off.
+//! gives it away. It ends with one join, or it breaks off. All of it goes by the
+//! version of what was discovered (C-15).
 
 use super::{ack_of, low_byte_first, Action, Answer, Outcome, Panel};
 use super::{PACKET_PLAIN, R2R_LENGTH, RESPONSE, TYPE_R2R, UNADDRESSED};
 use crate::frame::{self, Frame, COORDINATOR, COORDINATOR_TYPE, OVERHEAD};
 use crate::refusal::{refuse_if, Refusal};
 use crate::state::{Exchange, Identity, Phase};
+use crate::version::{self, PACKET_VERSION};
 
 /// 003, 6.6 to 6.8: the three requests and their responses.
 pub const TYPE_DISCOVER: u8 = 0x79;
@@ -25,8 +27,6 @@ pub const IDENTIFIED_LENGTH: usize = 17;
 const WRITE_ENABLED: u8 = 1;
 /// 003, table 57: the filter that every node type passes.
 const EVERY_TYPE: u8 = 0;
-/// 003, 4.3: the version bit, which the coordinator sets when it discovers.
-const PACKET_VERSION: u8 = 0x20;
 
 impl Panel {
     /// Discover: 22, then as the join of a new MAC 14 to 16, then 11.
@@ -46,14 +46,16 @@ impl Panel {
         self.coordinator.started && self.listed().next().is_some()
     }
 
-    /// Get Node ID, to the address at stake.
+    /// Get Node ID, to the address at stake on the subnet of what was discovered.
     pub(super) fn transmit_identify(
         &self,
         at: usize,
         found: Identity,
         out: &mut [u8],
     ) -> Result<(usize, Exchange, usize), Refusal> {
-        let written = frame::write(&self.own(at, TYPE_IDENTIFY, PACKET_PLAIN, &[]), out)?;
+        let subnet = self.subnet_of_version(found.version);
+        let request = Frame { subnet, ..self.own(at, TYPE_IDENTIFY, PACKET_PLAIN, &[]) };
+        let written = frame::write(&request, out)?;
         Ok((at, Exchange::Identify { found, acked: false }, written))
     }
 
@@ -73,7 +75,7 @@ impl Panel {
     fn address_payload(&self, at: usize, found: &Identity) -> [u8; ADDRESS_LENGTH] {
         let mut payload = [WRITE_ENABLED; ADDRESS_LENGTH];
         payload[0] = self.address(at);
-        payload[1] = self.coordinator.subnet;
+        payload[1] = self.subnet_of_version(found.version);
         payload[2..10].copy_from_slice(&found.mac.to_le_bytes());
         payload[10..18].copy_from_slice(&found.session.to_le_bytes());
         payload
@@ -104,7 +106,7 @@ impl Panel {
     ) -> Answer {
         match (exchange, frame.message_type) {
             (Exchange::Search, TYPE_DISCOVERED) => {
-                let found = discovered(frame.payload).ok_or(Refusal::UnexpectedType)?;
+                let found = discovered(frame).ok_or(Refusal::UnexpectedType)?;
                 Ok(self.found(found))
             }
             (Exchange::Identify { found, acked: false }, TYPE_R2R) => {
@@ -112,9 +114,9 @@ impl Panel {
                 self.hear(at, mac);
                 Ok(self.wait(at, Exchange::Identify { found, acked: true }, 0))
             }
-            (Exchange::Identify { .. }, TYPE_IDENTIFIED) => {
-                let holder = identified(frame.payload).ok_or(Refusal::UnexpectedType)?;
-                self.finish(at, &holder, out)
+            (Exchange::Identify { found, .. }, TYPE_IDENTIFIED) => {
+                let holder = identified(frame.payload, found.version);
+                self.finish(at, &holder.ok_or(Refusal::UnexpectedType)?, out)
             }
             (Exchange::Assign { found }, TYPE_ADDRESSED) => {
                 let echo = self.address_payload(at, &found);
@@ -139,6 +141,7 @@ impl Panel {
     /// The exchange ends with an ACK to the sender, who joins if the join is
     /// accepted and takes the very position at stake. The room is tested before
     /// anything changes, since the ACK's index is that of the records after it.
+    /// Its subnet is the sender's, though another may be listed there.
     fn finish(&mut self, at: usize, board: &Identity, out: &mut [u8]) -> Answer {
         refuse_if(out.len() < OVERHEAD + R2R_LENGTH, Refusal::NoRoom)?;
         self.come_to_rest();
@@ -148,7 +151,7 @@ impl Panel {
         } else {
             self.hear(at, board.mac);
         }
-        let written = self.write_ack(at, out)?;
+        let written = self.write_ack(at, self.subnet_of_version(board.version), out)?;
         let joined = if joins { at } else { 0 };
         Ok(Outcome { joined, ..Outcome::new(Action::Transmit, written) })
     }
@@ -195,18 +198,20 @@ fn broadcast(message_type: u8, packet: u8, payload: &[u8]) -> Frame<'_> {
 }
 
 /// 003, table 58: whom a Node Discovery Response tells of; its second byte is
-/// reserved and not looked at.
-fn discovered(payload: &[u8]) -> Option<Identity> {
-    (payload.len() == DISCOVERED_LENGTH).then(|| identity(payload[0], &payload[2..]))
+/// reserved and not looked at. Its packet number tells the version.
+fn discovered(frame: &Frame<'_>) -> Option<Identity> {
+    let (payload, version) = (frame.payload, version::of_packet(frame.packet));
+    (payload.len() == DISCOVERED_LENGTH).then(|| identity(payload[0], &payload[2..], version))
 }
 
-/// 003, table 62: whom a Get Node ID Response tells of.
-fn identified(payload: &[u8]) -> Option<Identity> {
-    (payload.len() == IDENTIFIED_LENGTH).then(|| identity(payload[0], &payload[1..]))
+/// 003, table 62: whom a Get Node ID Response tells of. He answers on the subnet of
+/// what was discovered, so he is of its version.
+fn identified(payload: &[u8], version: u8) -> Option<Identity> {
+    (payload.len() == IDENTIFIED_LENGTH).then(|| identity(payload[0], &payload[1..], version))
 }
 
-/// A node type, and MAC and session from 16 bytes.
-fn identity(node_type: u8, rest: &[u8]) -> Identity {
+/// A node type, MAC and session from 16 bytes, and a version.
+fn identity(node_type: u8, rest: &[u8], version: u8) -> Identity {
     let (mac, session) = rest.split_at(8);
-    Identity { node_type, mac: low_byte_first(mac), session: low_byte_first(session) }
+    Identity { node_type, mac: low_byte_first(mac), session: low_byte_first(session), version }
 }

@@ -7,9 +7,10 @@ use crate::state::{Identity, Record};
 /// goes as what it was and comes as what it is (C-12).
 pub(super) fn list(records: &mut [Record], position: usize, board: &Identity) {
     clear(records, position);
-    let Identity { node_type, mac, session } = *board;
+    let Identity { node_type, mac, session, version } = *board;
     let index = next_index(&records[..position - 1], node_type);
-    records[position - 1] = Record { node_type, mac, session, misses: 0, owed: true, index };
+    let (misses, owed) = (0, true);
+    records[position - 1] = Record { node_type, mac, session, misses, owed, index, version };
     for record in above(records, position, node_type) {
         record.index += 1;
     }
@@ -53,10 +54,16 @@ mod tests {
             misses: 2,
             owed: false,
             index: count(place) as u8,
+            version: 2,
         };
         let free = |place: usize| types[place] == 0;
         let places = 0..types.len();
         places.map(|place| if free(place) { Record::default() } else { record(place) }).collect()
+    }
+
+    /// A 1.0 board.
+    fn board(node_type: u8, mac: u64) -> Identity {
+        Identity { node_type, mac, session: 41, version: 1 }
     }
 
     /// Every table of five records of types 0 to 3.
@@ -74,11 +81,11 @@ mod tests {
         for types in tables() {
             for (place, node_type) in (0..5).flat_map(|place| [1, 2, 3, 9].map(|t| (place, t))) {
                 let (mut records, mut types) = (table(&types), types);
-                list(&mut records, place + 1, &Identity { node_type, mac: 40, session: 41 });
+                list(&mut records, place + 1, &board(node_type, 40));
                 types[place] = node_type;
                 let mut expected = table(&types);
-                let new = Record { mac: 40, session: 41, misses: 0, owed: true, ..expected[place] };
-                expected[place] = new;
+                let new = Record { mac: 40, session: 41, version: 1, ..expected[place] };
+                expected[place] = Record { misses: 0, owed: true, ..new };
                 assert_eq!(records, expected, "{types:?} {place}");
             }
         }
@@ -100,9 +107,9 @@ mod tests {
     fn those_above_move_and_nobody_below() {
         let mut records = table(&[2, 0, 2, 5, 2]);
         assert_eq!(indexes(&records), [0, 0, 1, 0, 2]);
-        list(&mut records, 2, &Identity { node_type: 2, mac: 9, session: 0 });
+        list(&mut records, 2, &board(2, 9));
         assert_eq!(indexes(&records), [0, 1, 2, 0, 3]);
-        list(&mut records, 3, &Identity { node_type: 5, mac: 3, session: 0 });
+        list(&mut records, 3, &board(5, 3));
         assert_eq!(indexes(&records), [0, 1, 0, 1, 2]);
         clear(&mut records, 1);
         assert_eq!(indexes(&records), [0, 0, 0, 1, 1]);
@@ -112,7 +119,7 @@ mod tests {
     fn forty_boards_of_a_type_have_the_indexes_0_to_39() {
         let mut records = vec![Record::default(); 40];
         for position in [40, 1, 20, 30, 10].into_iter().chain(2..40) {
-            list(&mut records, position, &Identity { node_type: 2, mac: 1, session: 0 });
+            list(&mut records, position, &board(2, 1));
         }
         assert_eq!(indexes(&records), (0..40).collect::<Vec<u8>>());
     }

@@ -2,6 +2,8 @@
 
 #![allow(dead_code)]
 
+pub mod waits;
+
 use reference::frame::{self, Frame};
 use reference::panel::{Action, Answer, Outcome, Panel, Settings};
 use reference::refusal::Refusal;

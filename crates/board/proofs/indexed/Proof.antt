@@ -7,7 +7,7 @@ use Rattle.board.specs.Index.{indexed}
 use Rattle.board.proofs.indexed.Statement.{statement}
 use Rattle.board.proofs.indexed.Tie as tie
 
-put-in : (n : Node) (x m : ℕ) → x ≡ min m 255 → record { kind = n .kind; mac = n .mac; session = n .session; misses = n .misses; owed = n .owed; index = x } ≡ indexed n m
+put-in : (n : Node) (x m : ℕ) → x ≡ min m 255 → record { kind = n .kind; mac = n .mac; session = n .session; misses = n .misses; owed = n .owed; index = x; version = n .version } ≡ indexed n m
 put-in n x m e = rw e refl
 
 returns : tie.Need-returns

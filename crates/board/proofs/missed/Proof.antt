@@ -8,7 +8,7 @@ use borrow.Author.Needs.{needs}
 use Rattle.board.proofs.missed.Statement.{statement}
 use Rattle.board.proofs.missed.Tie as tie
 
-one-more : (n : Node) (m : ℕ) → m ≡ min (n .misses + 1) 255 → record { kind = n .kind; mac = n .mac; session = n .session; misses = m; owed = n .owed; index = n .index } ≡ missed n
+one-more : (n : Node) (m : ℕ) → m ≡ min (n .misses + 1) 255 → record { kind = n .kind; mac = n .mac; session = n .session; misses = m; owed = n .owed; index = n .index; version = n .version } ≡ missed n
 one-more n m e = rw e refl
 
 add-n : tie.Need-add-n

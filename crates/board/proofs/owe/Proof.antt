@@ -8,7 +8,7 @@ use Rattle.board.specs.Change.{owe}
 use Rattle.board.proofs.owe.Statement.{statement}
 use Rattle.board.proofs.owe.Tie as tie
 
-marked : (n : Node) (m : ℕ) → m ≡ owe n .owed → record { kind = n .kind; mac = n .mac; session = n .session; misses = n .misses; owed = m; index = n .index } ≡ owe n
+marked : (n : Node) (m : ℕ) → m ≡ owe n .owed → record { kind = n .kind; mac = n .mac; session = n .session; misses = n .misses; owed = m; index = n .index; version = n .version } ≡ owe n
 marked n m e = rw e refl
 
 returns : tie.Need-returns

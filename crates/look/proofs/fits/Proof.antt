@@ -13,6 +13,9 @@ setup-fits-requires c κs = search needs
 boards-fit-requires : tie.Need-boards-fit-requires
 boards-fit-requires c κs = search needs
 
+types-fit-requires : tie.Need-types-fit-requires
+types-fit-requires c κs = search needs
+
 phase-fits-requires : tie.Need-phase-fits-requires
 phase-fits-requires c κs = search needs
 
@@ -30,6 +33,7 @@ fits-spec =
     phase-of-requires
     setup-fits-requires
     boards-fit-requires
+    types-fit-requires
     phase-fits-requires
     seek-fits-requires
     returns)

@@ -8,7 +8,7 @@ is-mac-requires : tie.Need-is-mac-requires
 is-mac-requires c κs = search needs
 
 returns : tie.Need-returns
-returns c = rw (c .is-mac .ensures) refl
+returns c = rw (c .before .before .is-mac .ensures) refl
 
 pub is-found-spec : {M : Type 1} → statement M
 is-found-spec = tie.close (tie.spec is-mac-requires returns)

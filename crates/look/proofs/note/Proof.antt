@@ -23,14 +23,17 @@ element-write-kinds c = search needs
 element-write-indexes : tie.Need-element-write-indexes
 element-write-indexes c = search needs
 
+element-write-versions : tie.Need-element-write-versions
+element-write-versions c = search needs
+
 mul-macs : tie.Need-mul-macs
 mul-macs c = search needs
 
 element-write-macs : tie.Need-element-write-macs
 element-write-macs c = search needs
 
-add-t14 : tie.Need-add-t14
-add-t14 c = search needs
+add-t17 : tie.Need-add-t17
+add-t17 c = search needs
 
 owed-first-requires : tie.Need-owed-first-requires
 owed-first-requires c κs = search needs
@@ -48,8 +51,9 @@ note-spec =
     returns-2
     element-write-kinds
     element-write-indexes
+    element-write-versions
     mul-macs
     element-write-macs
-    add-t14
+    add-t17
     owed-first-requires
     returns-3)

@@ -15,57 +15,60 @@ bytes-of-requires-2 c κs = search needs
 address-at-requires : tie.Need-address-at-requires
 address-at-requires c κs = search needs
 
-array-read-t11 : tie.Need-array-read-t11
-array-read-t11 c = search needs
+subnet-of-requires : tie.Need-subnet-of-requires
+subnet-of-requires c κs = search needs
 
-array-read-t14 : tie.Need-array-read-t14
-array-read-t14 c = search needs
+array-read-t13 : tie.Need-array-read-t13
+array-read-t13 c = search needs
 
-array-read-t17 : tie.Need-array-read-t17
-array-read-t17 c = search needs
+array-read-t16 : tie.Need-array-read-t16
+array-read-t16 c = search needs
 
-array-read-t20 : tie.Need-array-read-t20
-array-read-t20 c = search needs
+array-read-t19 : tie.Need-array-read-t19
+array-read-t19 c = search needs
 
-array-read-t23 : tie.Need-array-read-t23
-array-read-t23 c = search needs
+array-read-t22 : tie.Need-array-read-t22
+array-read-t22 c = search needs
 
-array-read-t26 : tie.Need-array-read-t26
-array-read-t26 c = search needs
+array-read-t25 : tie.Need-array-read-t25
+array-read-t25 c = search needs
 
-array-read-t29 : tie.Need-array-read-t29
-array-read-t29 c = search needs
+array-read-t28 : tie.Need-array-read-t28
+array-read-t28 c = search needs
 
-array-read-t32 : tie.Need-array-read-t32
-array-read-t32 c = search needs
+array-read-t31 : tie.Need-array-read-t31
+array-read-t31 c = search needs
 
-array-read-t35 : tie.Need-array-read-t35
-array-read-t35 c = search needs
+array-read-t34 : tie.Need-array-read-t34
+array-read-t34 c = search needs
 
-array-read-t38 : tie.Need-array-read-t38
-array-read-t38 c = search needs
+array-read-t37 : tie.Need-array-read-t37
+array-read-t37 c = search needs
 
-array-read-t41 : tie.Need-array-read-t41
-array-read-t41 c = search needs
+array-read-t40 : tie.Need-array-read-t40
+array-read-t40 c = search needs
 
-array-read-t44 : tie.Need-array-read-t44
-array-read-t44 c = search needs
+array-read-t43 : tie.Need-array-read-t43
+array-read-t43 c = search needs
 
-array-read-t47 : tie.Need-array-read-t47
-array-read-t47 c = search needs
+array-read-t46 : tie.Need-array-read-t46
+array-read-t46 c = search needs
 
-array-read-t50 : tie.Need-array-read-t50
-array-read-t50 c = search needs
+array-read-t49 : tie.Need-array-read-t49
+array-read-t49 c = search needs
 
-array-read-t53 : tie.Need-array-read-t53
-array-read-t53 c = search needs
+array-read-t52 : tie.Need-array-read-t52
+array-read-t52 c = search needs
 
-array-read-t56 : tie.Need-array-read-t56
-array-read-t56 c = search needs
+array-read-t55 : tie.Need-array-read-t55
+array-read-t55 c = search needs
+
+array-read-t58 : tie.Need-array-read-t58
+array-read-t58 c = search needs
 
 returns : tie.Need-returns
 unfolding assignment bytesOf
-returns c = rw (c .before .before .bytes-of .ensures, c .before .bytes-of2 .ensures, c .address-at .ensures) refl
+returns c = rw (c .before .before .before .bytes-of .ensures, c .before .before .bytes-of2 .ensures, c .before .address-at .ensures, c .subnet-of .ensures) refl
 
 pub assignment-bytes-spec : {M : Type 1} → statement M
 assignment-bytes-spec =
@@ -74,20 +77,21 @@ assignment-bytes-spec =
     bytes-of-requires
     bytes-of-requires-2
     address-at-requires
-    array-read-t11
-    array-read-t14
-    array-read-t17
-    array-read-t20
-    array-read-t23
-    array-read-t26
-    array-read-t29
-    array-read-t32
-    array-read-t35
-    array-read-t38
-    array-read-t41
-    array-read-t44
-    array-read-t47
-    array-read-t50
-    array-read-t53
-    array-read-t56
+    subnet-of-requires
+    array-read-t13
+    array-read-t16
+    array-read-t19
+    array-read-t22
+    array-read-t25
+    array-read-t28
+    array-read-t31
+    array-read-t34
+    array-read-t37
+    array-read-t40
+    array-read-t43
+    array-read-t46
+    array-read-t49
+    array-read-t52
+    array-read-t55
+    array-read-t58
     returns)

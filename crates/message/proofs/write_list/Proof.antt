@@ -1,50 +1,38 @@
--- `message::write_list` meets its contract: the front of the buffer is the list.
-use native.Mathlib.Omega.{arith}
-use mathlib.Core.Path.{refl}
-use lib.ListN.{replicate, length-take}
-use denote.Ref.{now}
-use Rattle.board.specs.Columns.{typed}
-use Rattle.message.proofs.Sent.{list-fits, list-front}
+-- `message::write_list` meets its contract: the form is the version's.
 use borrow.Author.Needs.{needs}
+use borrow.Author.Tests.{eq-eqb, ne-eqb}
+use Rattle.ground.proofs.Choices.{chosen, unchosen}
+use Rattle.nodelist.specs.List.{listOver}
 use Rattle.message.proofs.write_list.Statement.{statement}
 use Rattle.message.proofs.write_list.Tie as tie
 
-slice-aggregate-write-list : tie.Need-slice-aggregate-write-list
-slice-aggregate-write-list c = search needs
-
-write-list-requires : tie.Need-write-list-requires
-write-list-requires c κs = search needs
-
-list-length-requires : tie.Need-list-length-requires
-list-length-requires c κs = search needs
-
-array-share-prefix-payload : tie.Need-array-share-prefix-payload
-array-share-prefix-payload c = omega (arith, list-fits (c .before .before .before .before .before .args .top) (c .list-length .ensures))
-
-slice-aggregate-write-own : tie.Need-slice-aggregate-write-own
-slice-aggregate-write-own c = simp length-take (omega (arith, list-fits (c .before .before .before .before .before .before .args .top) (c .before .list-length .ensures)))
-
-write-own-requires : tie.Need-write-own-requires
-write-own-requires c κs = search needs
+write-condensed-requires : tie.Need-write-condensed-requires
+write-condensed-requires c κs = search needs
 
 same-length : tie.Need-same-length
 same-length c = search needs
 
 returns : tie.Need-returns
-returns c =
-    let args = c .before .before .before .before .before .before .before .before .before .before .args in
-    let front = list-front (args .top) (args .setup .internal) (typed (now (args .kinds))) (replicate 41 0) _ refl (c .before .before .before .before .before .before .before .write-list .ensures .1) (c .before .before .before .before .before .list-length .ensures) in
-    rw front at (c .before .before .write-own .ensures)
+unfolding listOver
+returns c = rw (eq-eqb _ 1 (c .before .before .before .before .if1 .taken), chosen _ _) (c .before .before .write-condensed .ensures)
+
+write-whole-requires : tie.Need-write-whole-requires
+write-whole-requires c κs = search needs
+
+same-length-2 : tie.Need-same-length-2
+same-length-2 c = search needs
+
+returns-2 : tie.Need-returns-2
+unfolding listOver
+returns-2 c = rw (ne-eqb _ 1 (c .before .before .before .before .if1 .left), unchosen _ _) (c .before .before .write-whole .ensures)
 
 pub write-list-spec : {M : Type 1} → statement M
 write-list-spec =
     tie.close
     (tie.spec
-    slice-aggregate-write-list
-    write-list-requires
-    list-length-requires
-    array-share-prefix-payload
-    slice-aggregate-write-own
-    write-own-requires
+    write-condensed-requires
     same-length
-    returns)
+    returns
+    write-whole-requires
+    same-length-2
+    returns-2)

@@ -1,6 +1,6 @@
 -- `nodelist::write_list` meets its contract: with i bytes written, the output is the first i of the list and past them what it was.
 use borrow.Author.Needs.{needs}
-use Prim.Native.Nat.{_+_, _-_, _≤_}
+use Prim.Native.Nat.{_-_, _≤_}
 use native.Mathlib.Omega.{arith}
 use mathlib.Core.Path.{_≡_, _∙_}
 use mathlib.Core.List.{_++_}

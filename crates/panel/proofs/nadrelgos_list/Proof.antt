@@ -32,10 +32,10 @@ use Rattle.panel.proofs.nadrelgos_list.Statement as stated
 use Rattle.panel.proofs.nadrelgos_list.Code as code
 
 abbrev Arg : Type 0
-Arg = RefT (List Node) × (ℕ × (ℕ × (ℕ × (ℕ × Unit {0}))))
+Arg = RefT (List Node) × (ℕ × (ℕ × (ℕ × (ℕ × (ℕ × Unit {0})))))
 
 abbrev stayed : Stays (edit′.ended .signature .params) (edit′.ended .kept)
-stayed = (gave-slice (0 ∷ []) tt (plain (λ _. T.the-row)), (stay-none (λ _. usize) yes, (stay-none (λ _. u8) yes, (stay-none (λ _. u64) yes, (stay-none (λ _. u64) yes, tt)))))
+stayed = (gave-slice (0 ∷ []) tt (plain (λ _. T.the-row)), (stay-none (λ _. usize) yes, (stay-none (λ _. u8) yes, (stay-none (λ _. u64) yes, (stay-none (λ _. u64) yes, (stay-none (λ _. u8) yes, tt))))))
 
 -- what a `Amendment` owns says of its fields
 is-from : (r : Amendment) (vs : List Val) → Is S.the-row r vs → Is usize (r .from) (vint w64 (r .from) ∷ [])
@@ -65,7 +65,7 @@ module _ {M : Type 1} (𝓤 : URA M) (H : Heap 𝓤) (A : Atoms 𝓤) (at-mem : 
   Number = tripleOf 𝓤 H A number′.signature (number′.spec 𝓤 H A at-mem run)
 
 module _ {M : Type 1} (𝓤 : URA M) (H : Heap 𝓤) (A : Atoms 𝓤) (W : Given 𝓤 H A) (at-mem : Memory → SProp 𝓤) (run : Routine → Fun 𝓤) (κ₁ : Lft) (q₁ : Share) (b₁ o₁ : ℕ) (γ₁ : GName) (ys : List Node)
-    (room₁ : Room T.the-row (length ys)) (e0 : ℕ) (is0 : Is usize e0 (vint w64 e0 ∷ [])) (e1 : ℕ) (is1 : Is u8 e1 (vint w8 e1 ∷ [])) (e2 : ℕ) (is2 : Is u64 e2 (vint w64 e2 ∷ [])) (e3 : ℕ) (is3 : Is u64 e3 (vint w64 e3 ∷ [])) where
+    (room₁ : Room T.the-row (length ys)) (e0 : ℕ) (is0 : Is usize e0 (vint w64 e0 ∷ [])) (e1 : ℕ) (is1 : Is u8 e1 (vint w8 e1 ∷ [])) (e2 : ℕ) (is2 : Is u64 e2 (vint w64 e2 ∷ [])) (e3 : ℕ) (is3 : Is u64 e3 (vint w64 e3 ∷ [])) (e4 : ℕ) (is4 : Is u8 e4 (vint w8 e4 ∷ [])) where
   abbrev x : RefT (List Node)
   x = record { ptr = (b₁, o₁); name = γ₁; now = ys }
 
@@ -73,13 +73,13 @@ module _ {M : Type 1} (𝓤 : URA M) (H : Heap 𝓤) (A : Atoms 𝓤) (W : Given
   s₁ = sliceVal (b₁, o₁) (length ys)
 
   abbrev a : Arg
-  a = (x, (e0, (e1, (e2, (e3, tt)))))
+  a = (x, (e0, (e1, (e2, (e3, (e4, tt))))))
 
-  abbrev at : List Val × (List Val × (List Val × (List Val × (List Val × Unit {0}))))
-  at = (s₁ ∷ [], (vint w64 e0 ∷ [], (vint w8 e1 ∷ [], (vint w64 e2 ∷ [], (vint w64 e3 ∷ [], tt)))))
+  abbrev at : List Val × (List Val × (List Val × (List Val × (List Val × (List Val × Unit {0})))))
+  at = (s₁ ∷ [], (vint w64 e0 ∷ [], (vint w8 e1 ∷ [], (vint w64 e2 ∷ [], (vint w64 e3 ∷ [], (vint w8 e4 ∷ [], tt))))))
 
   abbrev args : List Val
-  args = s₁ ∷ vint w64 e0 ∷ vint w8 e1 ∷ vint w64 e2 ∷ vint w64 e3 ∷ []
+  args = s₁ ∷ vint w64 e0 ∷ vint w8 e1 ∷ vint w64 e2 ∷ vint w64 e3 ∷ vint w8 e4 ∷ []
 
   abbrev answer : Amendment → Val
   answer r = vint w64 (r .answer)
@@ -87,15 +87,17 @@ module _ {M : Type 1} (𝓤 : URA M) (H : Heap 𝓤) (A : Atoms 𝓤) (W : Given
   abbrev Post : Val → SProp 𝓤
   Post = walkOf 𝓤 H A edit′.ended stayed (edit′.clauses 𝓤 H A at-mem run) .post (((κ₁, tt), (q₁, tt), tt, a, at), tt)
 
-  exits : (r : Amendment) (zs : List Node) → length zs ≡ length ys → amends (r .answer) zs ≡ amendOf (length ys) ys (listing ys e0 e1 e2 e3) → Is u64 (r .answer) (answer r ∷ [])
+  exits : (r : Amendment) (zs : List Node) → length zs ≡ length ys → amends (r .answer) zs ≡ amendOf (length ys) ys (listing ys e0 e1 e2 e3 e4) → Is u64 (r .answer) (answer r ∷ [])
       → ent 𝓤 (⋆ 𝓤 H A (‵ (flft κ₁ q₁) ∷ ‵ (finally T.the-row γ₁ zs) ∷ [])) (Post (answer r))
   exits r zs l₁ e is =
       qed W (‵ (flft κ₁ q₁) ∷ ‵ (finally T.the-row γ₁ zs) ∷ []) ∵
-      suffices ! _ (ends-at 𝓤 H A edit′.ended stayed (edit′.clauses 𝓤 H A at-mem run) W (((κ₁, tt), (q₁, tt), tt, a, at), tt) (answer r) (r .answer) (zs, (tt, (tt, (tt, (tt, tt))))) (l₁, (tt, (tt, (tt, (tt, tt)))))) $ says ! e $
+      suffices ! _ (ends-at 𝓤 H A edit′.ended stayed (edit′.clauses 𝓤 H A at-mem run) W (((κ₁, tt), (q₁, tt), tt, a, at), tt) (answer r) (r .answer) (zs, (tt, (tt, (tt, (tt, (tt, tt)))))) (l₁, (tt, (tt, (tt, (tt, (tt, tt))))))) $ says ! e $
       nothing ! $
       move ! (1 ∷ 0 ∷ []) $ join ! $
       frame ! $
       nothing ! $
+      owned ! u8 (Is u8) (uint-makes 𝓤 H A W w8) e4 _ is4 $
+      fjoin ! $
       owned ! u64 (Is u64) (uint-makes 𝓤 H A W w64) e3 _ is3 $
       fjoin ! $
       owned ! u64 (Is u64) (uint-makes 𝓤 H A W w64) e2 _ is2 $
@@ -112,10 +114,10 @@ module _ {M : Type 1} (𝓤 : URA M) (H : Heap 𝓤) (A : Atoms 𝓤) (W : Given
   module _ (C : Calls 𝓤 H) (Λ : Loops 𝓤 H) (fm : FmC 𝓤 H (W .laws) C) (known-pure : Triple 𝓤 (C #lent·list-edit) (Pure 𝓤 H A at-mem run)) (known-amend : Triple 𝓤 (C #place·amend) (Amend 𝓤 H A at-mem run)) (known-number : Triple 𝓤 (C #place·number) (Number 𝓤 H A at-mem run)) where
     walk : ent 𝓤 (onEntry 𝓤 H A edit′.signature (κ₁, tt) (q₁, tt) a at) (WpFn 𝓤 H C Λ code.function args Post)
     walk =
-        qed W ((‵ (flft κ₁ q₁) ⊛ ‵ ftrue) ∷ ‵ (owns (MutSlice (named 0) κ₁ T.the-row ∷ usize ∷ u8 ∷ u64 ∷ u64 ∷ []) a at) ∷ []) ∵ enter ! C Λ code.function args _ $
-        alloc1 ! (λ l₀. alloc1 ! (λ l₁. alloc1 ! (λ l₂. alloc1 ! (λ l₃. alloc1 ! (λ l₄. alloc1 ! (λ l₅. alloc1 ! (λ l₆. alloc1 ! {τ = tyStruct (S.struct .name) (tcons (tyInt w64) (tcons (tyInt w64) (tcons E′.mir (tcons (tyInt w64) (tcons (tyInt w64) tnil)))))} (λ l₇. alloc1 ! (λ l₈. alloc1 ! (λ l₉. alloc1 ! (λ l₁₀. alloc1 ! (λ l₁₁. alloc1 ! (λ l₁₂. alloc0 ! $ params1 ! $
-        pass1 ! (init ! 22 refl (tt, (tt, (record { fits = room₁ .0 }, tt)))) $ pass1 ! (init ! 20 refl (uint-lawful 𝓤 H A W w64 .typed e0 _ is0 .0)) $ pass1 ! (init ! 18 refl (uint-lawful 𝓤 H A W w8 .typed e1 _ is1 .0)) $ pass1 ! (init ! 16 refl (uint-lawful 𝓤 H A W w64 .typed e2 _ is2 .0)) $ pass1 ! (init ! 14 refl (uint-lawful 𝓤 H A W w64 .typed e3 _ is3 .0)) $ pass0 ! $
-        move ! (27 ∷ []) $ fsplit ! $
+        qed W ((‵ (flft κ₁ q₁) ⊛ ‵ ftrue) ∷ ‵ (owns (MutSlice (named 0) κ₁ T.the-row ∷ usize ∷ u8 ∷ u64 ∷ u64 ∷ u8 ∷ []) a at) ∷ []) ∵ enter ! C Λ code.function args _ $
+        alloc1 ! (λ l₀. alloc1 ! (λ l₁. alloc1 ! (λ l₂. alloc1 ! (λ l₃. alloc1 ! (λ l₄. alloc1 ! (λ l₅. alloc1 ! (λ l₆. alloc1 ! (λ l₇. alloc1 ! {τ = tyStruct (S.struct .name) (tcons (tyInt w64) (tcons (tyInt w64) (tcons E′.mir (tcons (tyInt w64) (tcons (tyInt w64) tnil)))))} (λ l₈. alloc1 ! (λ l₉. alloc1 ! (λ l₁₀. alloc1 ! (λ l₁₁. alloc1 ! (λ l₁₂. alloc1 ! (λ l₁₃. alloc0 ! $ params1 ! $
+        pass1 ! (init ! 24 refl (tt, (tt, (record { fits = room₁ .0 }, tt)))) $ pass1 ! (init ! 22 refl (uint-lawful 𝓤 H A W w64 .typed e0 _ is0 .0)) $ pass1 ! (init ! 20 refl (uint-lawful 𝓤 H A W w8 .typed e1 _ is1 .0)) $ pass1 ! (init ! 18 refl (uint-lawful 𝓤 H A W w64 .typed e2 _ is2 .0)) $ pass1 ! (init ! 16 refl (uint-lawful 𝓤 H A W w64 .typed e3 _ is3 .0)) $ pass1 ! (init ! 14 refl (uint-lawful 𝓤 H A W w8 .typed e4 _ is4 .0)) $ pass0 ! $
+        move ! (29 ∷ []) $ fsplit ! $
         move ! (1 ∷ []) $ fsplit ! $
         drop ! $
         fsplit ! $
@@ -124,12 +126,16 @@ module _ {M : Type 1} (𝓤 : URA M) (H : Heap 𝓤) (A : Atoms 𝓤) (W : Given
         drop ! $
         fsplit ! $
         drop ! $
+        fsplit ! $
         drop ! $
-        move ! (27 ∷ []) $ split ! $
+        drop ! $
+        move ! (29 ∷ []) $ split ! $
         move ! (1 ∷ []) $ drop ! $
-        assigns ! (of-opd ! (load ! (from ! (fld ! refl (stop !))) (look-in ! 24 (sub ! 1 refl (whole !))))) (from ! (stop !)) (init ! 14 refl (tt, record { fits = room₁ .0 })) $
+        assigns ! (of-opd ! (load ! (from ! (fld ! refl (stop !))) (look-in ! 26 (sub ! 1 refl (whole !))))) (from ! (stop !)) (init ! 14 refl (tt, record { fits = room₁ .0 })) $
         -- `list_edit`
         nothing ! $
+        owned ! u8 (Is u8) (uint-makes 𝓤 H A W w8) e4 _ is4 $
+        fjoin ! $
         owned ! u64 (Is u64) (uint-makes 𝓤 H A W w64) e3 _ is3 $
         fjoin ! $
         owned ! u64 (Is u64) (uint-makes 𝓤 H A W w64) e2 _ is2 $
@@ -141,20 +147,20 @@ module _ {M : Type 1} (𝓤 : URA M) (H : Heap 𝓤) (A : Atoms 𝓤) (W : Given
         owned ! usize (Is usize) (uint-makes 𝓤 H A W w64) (length ys) _ (refl, room₁ .0) $
         fjoin ! $
         nothing ! $
-        use2 W (raw (Pure 𝓤 H A at-mem run .pre ((tt, tt, tt, (length ys, (e0, (e1, (e2, (e3, tt))))), (vint w64 (length ys) ∷ [], (vint w64 e0 ∷ [], (vint w8 e1 ∷ [], (vint w64 e2 ∷ [], (vint w64 e3 ∷ [], tt)))))), tt))) (qed W (‵ ftrue ∷ ‵ (owns (usize ∷ usize ∷ u8 ∷ u64 ∷ u64 ∷ []) (length ys, (e0, (e1, (e2, (e3, tt))))) (vint w64 (length ys) ∷ [], (vint w64 e0 ∷ [], (vint w8 e1 ∷ [], (vint w64 e2 ∷ [], (vint w64 e3 ∷ [], tt)))))) ∷ []) ∵ join ! $ frame ! $ done !) $
-        calls-at ! fm (Pure 𝓤 H A at-mem run) known-pure ((tt, tt, tt, (length ys, (e0, (e1, (e2, (e3, tt))))), (vint w64 (length ys) ∷ [], (vint w64 e0 ∷ [], (vint w8 e1 ∷ [], (vint w64 e2 ∷ [], (vint w64 e3 ∷ [], tt)))))), tt) (and-then ! (load ! (from ! (stop !)) (look ! 15 refl)) (and-then ! (load ! (from ! (stop !)) (look ! 23 refl)) (and-then ! (load ! (from ! (stop !)) (look ! 21 refl)) (and-then ! (load ! (from ! (stop !)) (look ! 19 refl)) (and-then ! (load ! (from ! (stop !)) (look ! 17 refl)) (no-more !)))))) (λ u.
-        use1 W (later (some (λ (r : Amendment). (‵ ftrue ⊛ ‵ (S.the-row .own r (u ∷ []))) ⊛ raw (ensured 𝓤 H A pure.ended (pure.clauses 𝓤 H A at-mem run) tt (length ys, (e0, (e1, (e2, (e3, tt))))) tt r)))) (id⊢ 𝓤 _) $ await ! tt $ pick ! (λ r. split ! $
-        move ! (1 ∷ []) $ use1 W (some (λ (ws : Unit {0} × (Unit {0} × (Unit {0} × (Unit {0} × (Unit {0} × Unit {0}))))). ‵ (lasts pure.ended tt (length ys, (e0, (e1, (e2, (e3, tt))))) ws) ⊛ raw (fact 𝓤 (r ≡ amending (length ys) e0 (Joined e1 e2 e3))))) (id⊢ 𝓤 _) $ pick ! (λ ws. split ! $
-        move ! (1 ∷ []) $ heard ! (r ≡ amending (length ys) e0 (Joined e1 e2 e3)) (λ er.
+        use2 W (raw (Pure 𝓤 H A at-mem run .pre ((tt, tt, tt, (length ys, (e0, (e1, (e2, (e3, (e4, tt)))))), (vint w64 (length ys) ∷ [], (vint w64 e0 ∷ [], (vint w8 e1 ∷ [], (vint w64 e2 ∷ [], (vint w64 e3 ∷ [], (vint w8 e4 ∷ [], tt))))))), tt))) (qed W (‵ ftrue ∷ ‵ (owns (usize ∷ usize ∷ u8 ∷ u64 ∷ u64 ∷ u8 ∷ []) (length ys, (e0, (e1, (e2, (e3, (e4, tt)))))) (vint w64 (length ys) ∷ [], (vint w64 e0 ∷ [], (vint w8 e1 ∷ [], (vint w64 e2 ∷ [], (vint w64 e3 ∷ [], (vint w8 e4 ∷ [], tt))))))) ∷ []) ∵ join ! $ frame ! $ done !) $
+        calls-at ! fm (Pure 𝓤 H A at-mem run) known-pure ((tt, tt, tt, (length ys, (e0, (e1, (e2, (e3, (e4, tt)))))), (vint w64 (length ys) ∷ [], (vint w64 e0 ∷ [], (vint w8 e1 ∷ [], (vint w64 e2 ∷ [], (vint w64 e3 ∷ [], (vint w8 e4 ∷ [], tt))))))), tt) (and-then ! (load ! (from ! (stop !)) (look ! 15 refl)) (and-then ! (load ! (from ! (stop !)) (look ! 25 refl)) (and-then ! (load ! (from ! (stop !)) (look ! 23 refl)) (and-then ! (load ! (from ! (stop !)) (look ! 21 refl)) (and-then ! (load ! (from ! (stop !)) (look ! 19 refl)) (and-then ! (load ! (from ! (stop !)) (look ! 17 refl)) (no-more !))))))) (λ u.
+        use1 W (later (some (λ (r : Amendment). (‵ ftrue ⊛ ‵ (S.the-row .own r (u ∷ []))) ⊛ raw (ensured 𝓤 H A pure.ended (pure.clauses 𝓤 H A at-mem run) tt (length ys, (e0, (e1, (e2, (e3, (e4, tt)))))) tt r)))) (id⊢ 𝓤 _) $ await ! tt $ pick ! (λ r. split ! $
+        move ! (1 ∷ []) $ use1 W (some (λ (ws : Unit {0} × (Unit {0} × (Unit {0} × (Unit {0} × (Unit {0} × (Unit {0} × Unit {0})))))). ‵ (lasts pure.ended tt (length ys, (e0, (e1, (e2, (e3, (e4, tt)))))) ws) ⊛ raw (fact 𝓤 (r ≡ amending (length ys) e0 (Joined e1 e2 e3 e4))))) (id⊢ 𝓤 _) $ pick ! (λ ws. split ! $
+        move ! (1 ∷ []) $ heard ! (r ≡ amending (length ys) e0 (Joined e1 e2 e3 e4)) (λ er.
         drop ! $
         split ! $
         move ! (1 ∷ []) $ peeks ! S.the-row (Is S.the-row) (shows′ 𝓤 H A S.the-row) r (u ∷ []) (λ isr. drop ! $
         drop ! $
         land ! (from ! (stop !)) (init ! 12 refl (LL.lawful S.the-type S′.the-laws 𝓤 H A W .typed r _ isr .0)) $
-        rewrite ! 12 (λ (y : Val). ‵ (fat fullShare (tyStruct (S.struct .name) (tcons (tyInt w64) (tcons (tyInt w64) (tcons E′.mir (tcons (tyInt w64) (tcons (tyInt w64) tnil)))))) l₇ 0 y)) (ap only (LL.tells S.the-type S′.the-laws r _ isr)) refl $
+        rewrite ! 12 (λ (y : Val). ‵ (fat fullShare (tyStruct (S.struct .name) (tcons (tyInt w64) (tcons (tyInt w64) (tcons E′.mir (tcons (tyInt w64) (tcons (tyInt w64) tnil)))))) l₈ 0 y)) (ap only (LL.tells S.the-type S′.the-laws r _ isr)) refl $
         -- `amend`: the nodes are lent again
-        assigns ! (addr ! (from ! (fld ! refl (hop ! (look-in ! 24 (sub ! 0 refl (whole !))) (stop !))))) (from ! (stop !)) (init ! 8 refl (tt, tt)) $
-        assigns ! (agg ! (and-then ! (load ! (from ! (stop !)) (look ! 8 refl)) (and-then ! (load ! (from ! (fld ! refl (stop !))) (look-in ! 24 (sub ! 1 refl (whole !)))) (no-more !)))) (from ! (stop !)) (init ! 6 refl (tt, (tt, (record { fits = room₁ .0 }, tt)))) $
+        assigns ! (addr ! (from ! (fld ! refl (hop ! (look-in ! 26 (sub ! 0 refl (whole !))) (stop !))))) (from ! (stop !)) (init ! 8 refl (tt, tt)) $
+        assigns ! (agg ! (and-then ! (load ! (from ! (stop !)) (look ! 8 refl)) (and-then ! (load ! (from ! (fld ! refl (stop !))) (look-in ! 26 (sub ! 1 refl (whole !)))) (no-more !)))) (from ! (stop !)) (init ! 6 refl (tt, (tt, (record { fits = room₁ .0 }, tt)))) $
         lft-new ! tt (λ ν.
         move ! (2 ∷ 1 ∷ []) $ use2 W (later (some (λ (δ : GName). ‵ (MutSlice (named 0) (ν ∷ []) T.the-row .own (record { ptr = (b₁, o₁); name = δ; now = ys }) (s₁ ∷ [])) ⊛ ‵ (LentSlice T.the-row κ₁ (ν ∷ []) q₁ γ₁ b₁ o₁ δ ys)))) (lends-slice T.the-row κ₁ (ν ∷ []) q₁ γ₁ b₁ o₁ 𝓤 H A W (named 0) (named 0) ys refl) $ await ! tt $ pick ! (λ δ. split ! $
         nothing ! $
@@ -184,8 +190,8 @@ module _ {M : Type 1} (𝓤 : URA M) (H : Heap 𝓤) (A : Atoms 𝓤) (W : Given
         lft-end ! tt $
         move ! (0 ∷ 2 ∷ 1 ∷ []) $ use3 W (later (‵ (MutSlice (named 0) κ₁ T.the-row .own (record { ptr = (b₁, o₁); name = γ₁; now = us .0 }) (s₁ ∷ [])) ⊛ ‵ (flft κ₁ q₁))) (slice-back T.the-row κ₁ (ν ∷ []) q₁ γ₁ b₁ o₁ 𝓤 H A W (named 0) (named 0) ys refl δ (us .0) room₁ lu) $ await ! tt $ split ! $
         -- `number`: they are given to it for good
-        assigns ! (addr ! (from ! (fld ! refl (hop ! (look-in ! 24 (sub ! 0 refl (whole !))) (stop !))))) (from ! (stop !)) (init ! 4 refl (tt, tt)) $
-        assigns ! (agg ! (and-then ! (load ! (from ! (stop !)) (look ! 4 refl)) (and-then ! (load ! (from ! (fld ! refl (stop !))) (look-in ! 24 (sub ! 1 refl (whole !)))) (no-more !)))) (from ! (stop !)) (init ! 2 refl (tt, (tt, (record { fits = room₁ .0 }, tt)))) $
+        assigns ! (addr ! (from ! (fld ! refl (hop ! (look-in ! 26 (sub ! 0 refl (whole !))) (stop !))))) (from ! (stop !)) (init ! 4 refl (tt, tt)) $
+        assigns ! (agg ! (and-then ! (load ! (from ! (stop !)) (look ! 4 refl)) (and-then ! (load ! (from ! (fld ! refl (stop !))) (look-in ! 26 (sub ! 1 refl (whole !)))) (no-more !)))) (from ! (stop !)) (init ! 2 refl (tt, (tt, (record { fits = room₁ .0 }, tt)))) $
         nothing ! $
         owned ! usize (Is usize) (uint-makes 𝓤 H A W w64) (r .all) _ (is-all r _ isr) $
         fjoin ! $
@@ -206,21 +212,21 @@ module _ {M : Type 1} (𝓤 : URA M) (H : Heap 𝓤) (A : Atoms 𝓤) (W : Given
         split ! $
         move ! (1 ∷ []) $ drop ! $
         land ! (from ! (stop !)) (store ! 10 refl (nothing-lawful 𝓤 H A W .typed i _ isi .0)) $
-        assigns ! (of-opd ! (load ! (from ! (fld ! refl (stop !))) (look-in ! 12 (sub ! 4 refl (whole !))))) (from ! (stop !)) (init ! 26 refl (uint-lawful 𝓤 H A W w64 .typed (r .answer) _ (is-answer r _ isr) .0)) $
-        returns ! (look ! 26 refl) $ forget ! 26 refl $ forget ! 24 refl $ forget ! 22 refl $ forget ! 20 refl $ forget ! 18 refl $ forget ! 16 refl $ forget ! 14 refl $ forget ! 12 refl $ forget ! 10 refl $ forget ! 8 refl $ forget ! 6 refl $ forget ! 4 refl $ forget ! 2 refl $
-        move ! (26 ∷ 27 ∷ []) $ free1 ! $ move ! (24 ∷ 25 ∷ []) $ free1 ! $ move ! (22 ∷ 23 ∷ []) $ free1 ! $ move ! (20 ∷ 21 ∷ []) $ free1 ! $ move ! (18 ∷ 19 ∷ []) $ free1 ! $ move ! (16 ∷ 17 ∷ []) $ free1 ! $ move ! (14 ∷ 15 ∷ []) $ free1 ! $ move ! (12 ∷ 13 ∷ []) $ free1 ! $ move ! (10 ∷ 11 ∷ []) $ free1 ! $ move ! (8 ∷ 9 ∷ []) $ free1 ! $ move ! (6 ∷ 7 ∷ []) $ free1 ! $ move ! (4 ∷ 5 ∷ []) $ free1 ! $ move ! (2 ∷ 3 ∷ []) $ free1 ! $ free0 ! $
+        assigns ! (of-opd ! (load ! (from ! (fld ! refl (stop !))) (look-in ! 12 (sub ! 4 refl (whole !))))) (from ! (stop !)) (init ! 28 refl (uint-lawful 𝓤 H A W w64 .typed (r .answer) _ (is-answer r _ isr) .0)) $
+        returns ! (look ! 28 refl) $ forget ! 28 refl $ forget ! 26 refl $ forget ! 24 refl $ forget ! 22 refl $ forget ! 20 refl $ forget ! 18 refl $ forget ! 16 refl $ forget ! 14 refl $ forget ! 12 refl $ forget ! 10 refl $ forget ! 8 refl $ forget ! 6 refl $ forget ! 4 refl $ forget ! 2 refl $
+        move ! (28 ∷ 29 ∷ []) $ free1 ! $ move ! (26 ∷ 27 ∷ []) $ free1 ! $ move ! (24 ∷ 25 ∷ []) $ free1 ! $ move ! (22 ∷ 23 ∷ []) $ free1 ! $ move ! (20 ∷ 21 ∷ []) $ free1 ! $ move ! (18 ∷ 19 ∷ []) $ free1 ! $ move ! (16 ∷ 17 ∷ []) $ free1 ! $ move ! (14 ∷ 15 ∷ []) $ free1 ! $ move ! (12 ∷ 13 ∷ []) $ free1 ! $ move ! (10 ∷ 11 ∷ []) $ free1 ! $ move ! (8 ∷ 9 ∷ []) $ free1 ! $ move ! (6 ∷ 7 ∷ []) $ free1 ! $ move ! (4 ∷ 5 ∷ []) $ free1 ! $ move ! (2 ∷ 3 ∷ []) $ free1 ! $ free0 ! $
         keep ! (0 ∷ 1 ∷ []) $
-        by ! (exits r (zs .0) (lz ∙ lu) (number-in-place ys (us .0) e0 (Joined e1 e2 e3) r eu er (zs .0) ez) (is-answer r _ isr))))))))))))))))))))))))))))))))))
+        by ! (exits r (zs .0) (lz ∙ lu) (number-in-place ys (us .0) e0 (Joined e1 e2 e3 e4) r eu er (zs .0) ez) (is-answer r _ isr)))))))))))))))))))))))))))))))))))
 
 module _ {M : Type 1} (𝓤 : URA M) (H : Heap 𝓤) (A : Atoms 𝓤) (W : Given 𝓤 H A) (at-mem : Memory → SProp 𝓤) (run : Routine → Fun 𝓤) where
   walks : (C : Calls 𝓤 H) (Λ : Loops 𝓤 H) → FmC 𝓤 H (W .laws) C → Triple 𝓤 (C #lent·list-edit) (Pure 𝓤 H A at-mem run) → Triple 𝓤 (C #place·amend) (Amend 𝓤 H A at-mem run) → Triple 𝓤 (C #place·number) (Number 𝓤 H A at-mem run)
       → Walks 𝓤 H A edit′.ended stayed (WpFn 𝓤 H C Λ code.function) (edit′.clauses 𝓤 H A at-mem run)
-  walks C Λ fm known-pure known-amend known-number = walked 𝓤 H A edit′.ended stayed (edit′.clauses 𝓤 H A at-mem run) (WpFn 𝓤 H C Λ code.function) (λ κs. (slice-vals, (uint-vals w64, (uint-vals w8, (uint-vals w64, (uint-vals w64, tt))))))
-      (λ κs. (mut-slice-tells (named 0) (κs .0) T.the-row, (uint-tells w64, (uint-tells w8, (uint-tells w64, (uint-tells w64, tt))))))
-      (λ κs qs bounds a g are. via 𝓤 _ (fst∗ 𝓤 _ (emp 𝓤)) (walk 𝓤 H A W at-mem run (κs .0) (qs .0) (a .0 .ptr .0) (a .0 .ptr .1) (a .0 .name) (a .0 .now) (are .0 .0 .1) (a .1 .0) (are .1 .0) (a .1 .1 .0) (are .1 .1 .0) (a .1 .1 .1 .0) (are .1 .1 .1 .0) (a .1 .1 .1 .1 .0) (are .1 .1 .1 .1 .0) C Λ fm known-pure known-amend known-number))
+  walks C Λ fm known-pure known-amend known-number = walked 𝓤 H A edit′.ended stayed (edit′.clauses 𝓤 H A at-mem run) (WpFn 𝓤 H C Λ code.function) (λ κs. (slice-vals, (uint-vals w64, (uint-vals w8, (uint-vals w64, (uint-vals w64, (uint-vals w8, tt)))))))
+      (λ κs. (mut-slice-tells (named 0) (κs .0) T.the-row, (uint-tells w64, (uint-tells w8, (uint-tells w64, (uint-tells w64, (uint-tells w8, tt)))))))
+      (λ κs qs bounds a g are. via 𝓤 _ (fst∗ 𝓤 _ (emp 𝓤)) (walk 𝓤 H A W at-mem run (κs .0) (qs .0) (a .0 .ptr .0) (a .0 .ptr .1) (a .0 .name) (a .0 .now) (are .0 .0 .1) (a .1 .0) (are .1 .0) (a .1 .1 .0) (are .1 .1 .0) (a .1 .1 .1 .0) (are .1 .1 .1 .0) (a .1 .1 .1 .1 .0) (are .1 .1 .1 .1 .0) (a .1 .1 .1 .1 .1 .0) (are .1 .1 .1 .1 .1 .0) C Λ fm known-pure known-amend known-number))
 
   goes : AllGo 𝓤 H A W 1 (edit′.signature .params) (edit′.ended .kept) stayed
-  goes = (goes-gave-slice 𝓤 H A W 1 0 tt (plain (λ _. T.the-row)), (goes-none 𝓤 H A W 1 (λ _. usize) yes (λ κs x f. refl), (goes-none 𝓤 H A W 1 (λ _. u8) yes (λ κs x f. refl), (goes-none 𝓤 H A W 1 (λ _. u64) yes (λ κs x f. refl), (goes-none 𝓤 H A W 1 (λ _. u64) yes (λ κs x f. refl), tt)))))
+  goes = (goes-gave-slice 𝓤 H A W 1 0 tt (plain (λ _. T.the-row)), (goes-none 𝓤 H A W 1 (λ _. usize) yes (λ κs x f. refl), (goes-none 𝓤 H A W 1 (λ _. u8) yes (λ κs x f. refl), (goes-none 𝓤 H A W 1 (λ _. u64) yes (λ κs x f. refl), (goes-none 𝓤 H A W 1 (λ _. u64) yes (λ κs x f. refl), (goes-none 𝓤 H A W 1 (λ _. u8) yes (λ κs x f. refl), tt))))))
 
 meets : {M : Type 1} (𝓤 : URA M) (H : Heap 𝓤) (A : Atoms 𝓤) (W : Given 𝓤 H A) (at-mem : Memory → SProp 𝓤) (run : Routine → Fun 𝓤) (𝓣 : Tables 𝓤 H) → Triple 𝓤 (𝓣 .C #lent·list-edit) (Pure 𝓤 H A at-mem run) → Triple 𝓤 (𝓣 .C #place·amend) (Amend 𝓤 H A at-mem run) → Triple 𝓤 (𝓣 .C #place·number) (Number 𝓤 H A at-mem run)
     → Meets 𝓤 H A edit′.signature (WpFn 𝓤 H (𝓣 .C) (𝓣 .Λ) code.function) (edit′.spec 𝓤 H A at-mem run)

@@ -36,10 +36,10 @@ use Rattle.panel.proofs.nadrelgos_step.Statement as stated
 use Rattle.panel.proofs.nadrelgos_step.Code as code
 
 abbrev Arg : Type 0
-Arg = RefT Coordinator × (RefT (List Node) × (ℕ × (ℕ × (ℕ × (ℕ × (RefT (List ℕ) × (RefT (List ℕ) × Unit {0})))))))
+Arg = RefT Coordinator × (RefT (List Node) × (ℕ × (ℕ × (ℕ × (ℕ × (ℕ × (RefT (List ℕ) × (RefT (List ℕ) × Unit {0}))))))))
 
 abbrev stayed : Stays (face′.ended .signature .params) (face′.ended .kept)
-stayed = (gave-ref (0 ∷ []) tt (plain (λ _. K.the-row)), (gave-slice (1 ∷ []) tt (plain (λ _. T.the-row)), (stay-none (λ _. u8) yes, (stay-none (λ _. u8) yes, (stay-none (λ _. u64) yes, (stay-none (λ _. u64) yes, (stay-none-slice (2 ∷ []) tt (plain (λ _. u8)) yes, (gave-slice (3 ∷ []) tt (plain (λ _. u8)), tt))))))))
+stayed = (gave-ref (0 ∷ []) tt (plain (λ _. K.the-row)), (gave-slice (1 ∷ []) tt (plain (λ _. T.the-row)), (stay-none (λ _. u8) yes, (stay-none (λ _. u8) yes, (stay-none (λ _. u64) yes, (stay-none (λ _. u64) yes, (stay-none (λ _. u8) yes, (stay-none-slice (2 ∷ []) tt (plain (λ _. u8)) yes, (gave-slice (3 ∷ []) tt (plain (λ _. u8)), tt)))))))))
 
 abbrev number : Outcome → ℕ
 number y = packed (told (y .answer)) (y .written) (y .joined) (y .dropped)
@@ -49,8 +49,8 @@ module _ {M : Type 1} (𝓤 : URA M) (H : Heap 𝓤) (A : Atoms 𝓤) (at-mem : 
   abbrev Hear : Contract 𝓤
   Hear = tripleOf 𝓤 H A hear′.signature (hear′.spec 𝓤 H A at-mem run)
 
-  hear-of : (e0 : ℕ) (e1 : ℕ) (e2 : ℕ) (e3 : ℕ) (v : Event) → ent 𝓤 (ensured 𝓤 H A hear′.ended (hear′.clauses 𝓤 H A at-mem run) tt (e0, (e1, (e2, (e3, tt)))) tt v) (fact 𝓤 (v ≡ eventOf e0 e1 e2 e3))
-  hear-of e0 e1 e2 e3 v = exE 𝓤 _ (λ ws. snd∗ 𝓤 (sem 𝓤 H A (lasts hear′.ended tt (e0, (e1, (e2, (e3, tt)))) ws)) (fact 𝓤 (v ≡ eventOf e0 e1 e2 e3)))
+  hear-of : (e0 : ℕ) (e1 : ℕ) (e2 : ℕ) (e3 : ℕ) (e4 : ℕ) (v : Event) → ent 𝓤 (ensured 𝓤 H A hear′.ended (hear′.clauses 𝓤 H A at-mem run) tt (e0, (e1, (e2, (e3, (e4, tt))))) tt v) (fact 𝓤 (v ≡ eventOf e0 e1 e2 e3 e4))
+  hear-of e0 e1 e2 e3 e4 v = exE 𝓤 _ (λ ws. snd∗ 𝓤 (sem 𝓤 H A (lasts hear′.ended tt (e0, (e1, (e2, (e3, (e4, tt))))) ws)) (fact 𝓤 (v ≡ eventOf e0 e1 e2 e3 e4)))
 
   abbrev Step : Contract 𝓤
   Step = tripleOf 𝓤 H A step′.signature (step′.spec 𝓤 H A at-mem run)
@@ -61,8 +61,8 @@ module _ {M : Type 1} (𝓤 : URA M) (H : Heap 𝓤) (A : Atoms 𝓤) (at-mem : 
   pack-of : (y : Outcome) (n : ℕ) → ent 𝓤 (ensured 𝓤 H A pack′.ended (pack′.clauses 𝓤 H A at-mem run) tt (y, tt) tt n) (fact 𝓤 (n ≡ number y))
   pack-of y n = exE 𝓤 _ (λ ws. snd∗ 𝓤 (sem 𝓤 H A (lasts pack′.ended tt (y, tt) ws)) (fact 𝓤 (n ≡ number y)))
 
-module _ {M : Type 1} (𝓤 : URA M) (H : Heap 𝓤) (A : Atoms 𝓤) (W : Given 𝓤 H A) (at-mem : Memory → SProp 𝓤) (run : Routine → Fun 𝓤) (κ₀ κ₁ κb4 κ₂ : Lft) (q₀ q₁ qb4 q₂ : Share) (b₀ o₀ : ℕ) (γ₀ : GName) (h : Coordinator) (b₁ o₁ : ℕ) (γ₁ : GName) (ys : List Node) (b₂ o₂ : ℕ) (γ₂ : GName) (os : List ℕ)
-    (room₁ : Room T.the-row (length ys)) (room₂ : Room u8 (length os)) (e0 : ℕ) (is0 : Is u8 e0 (vint w8 e0 ∷ [])) (e1 : ℕ) (is1 : Is u8 e1 (vint w8 e1 ∷ [])) (e2 : ℕ) (is2 : Is u64 e2 (vint w64 e2 ∷ [])) (e3 : ℕ) (is3 : Is u64 e3 (vint w64 e3 ∷ [])) (bb4 ob4 : ℕ) (γb4 : GName) (xs4 : List ℕ) (room-b4 : Room u8 (length xs4)) where
+module _ {M : Type 1} (𝓤 : URA M) (H : Heap 𝓤) (A : Atoms 𝓤) (W : Given 𝓤 H A) (at-mem : Memory → SProp 𝓤) (run : Routine → Fun 𝓤) (κ₀ κ₁ κb5 κ₂ : Lft) (q₀ q₁ qb5 q₂ : Share) (b₀ o₀ : ℕ) (γ₀ : GName) (h : Coordinator) (b₁ o₁ : ℕ) (γ₁ : GName) (ys : List Node) (b₂ o₂ : ℕ) (γ₂ : GName) (os : List ℕ)
+    (room₁ : Room T.the-row (length ys)) (room₂ : Room u8 (length os)) (e0 : ℕ) (is0 : Is u8 e0 (vint w8 e0 ∷ [])) (e1 : ℕ) (is1 : Is u8 e1 (vint w8 e1 ∷ [])) (e2 : ℕ) (is2 : Is u64 e2 (vint w64 e2 ∷ [])) (e3 : ℕ) (is3 : Is u64 e3 (vint w64 e3 ∷ [])) (e4 : ℕ) (is4 : Is u8 e4 (vint w8 e4 ∷ [])) (bb5 ob5 : ℕ) (γb5 : GName) (xs5 : List ℕ) (room-b5 : Room u8 (length xs5)) where
   abbrev c : RefT Coordinator
   c = record { ptr = (b₀, o₀); name = γ₀; now = h }
 
@@ -78,35 +78,37 @@ module _ {M : Type 1} (𝓤 : URA M) (H : Heap 𝓤) (A : Atoms 𝓤) (W : Given
   abbrev s₂ : Val
   s₂ = sliceVal (b₂, o₂) (length os)
 
-  abbrev rb4 : RefT (List ℕ)
-  rb4 = record { ptr = (bb4, ob4); name = γb4; now = xs4 }
+  abbrev rb5 : RefT (List ℕ)
+  rb5 = record { ptr = (bb5, ob5); name = γb5; now = xs5 }
 
-  abbrev sb4 : Val
-  sb4 = sliceVal (bb4, ob4) (length xs4)
+  abbrev sb5 : Val
+  sb5 = sliceVal (bb5, ob5) (length xs5)
 
   abbrev a : Arg
-  a = (c, (x, (e0, (e1, (e2, (e3, (rb4, (w, tt))))))))
+  a = (c, (x, (e0, (e1, (e2, (e3, (e4, (rb5, (w, tt)))))))))
 
-  abbrev at : List Val × (List Val × (List Val × (List Val × (List Val × (List Val × (List Val × (List Val × Unit {0})))))))
-  at = (vptr b₀ o₀ ∷ [], (s₁ ∷ [], (vint w8 e0 ∷ [], (vint w8 e1 ∷ [], (vint w64 e2 ∷ [], (vint w64 e3 ∷ [], (sb4 ∷ [], (s₂ ∷ [], tt))))))))
+  abbrev at : List Val × (List Val × (List Val × (List Val × (List Val × (List Val × (List Val × (List Val × (List Val × Unit {0}))))))))
+  at = (vptr b₀ o₀ ∷ [], (s₁ ∷ [], (vint w8 e0 ∷ [], (vint w8 e1 ∷ [], (vint w64 e2 ∷ [], (vint w64 e3 ∷ [], (vint w8 e4 ∷ [], (sb5 ∷ [], (s₂ ∷ [], tt)))))))))
 
   abbrev args : List Val
-  args = vptr b₀ o₀ ∷ s₁ ∷ vint w8 e0 ∷ vint w8 e1 ∷ vint w64 e2 ∷ vint w64 e3 ∷ sb4 ∷ s₂ ∷ []
+  args = vptr b₀ o₀ ∷ s₁ ∷ vint w8 e0 ∷ vint w8 e1 ∷ vint w64 e2 ∷ vint w64 e3 ∷ vint w8 e4 ∷ sb5 ∷ s₂ ∷ []
 
   abbrev toks : Item 𝓤
-  toks = ‵ (flft κ₀ q₀) ⊛ (‵ (flft κ₁ q₁) ⊛ (‵ (flft κb4 qb4) ⊛ (‵ (flft κ₂ q₂) ⊛ ‵ ftrue)))
+  toks = ‵ (flft κ₀ q₀) ⊛ (‵ (flft κ₁ q₁) ⊛ (‵ (flft κb5 qb5) ⊛ (‵ (flft κ₂ q₂) ⊛ ‵ ftrue)))
 
   abbrev Post : Val → SProp 𝓤
-  Post = walkOf 𝓤 H A face′.ended stayed (face′.clauses 𝓤 H A at-mem run) .post (((κ₀, (κ₁, (κb4, (κ₂, tt)))), (q₀, (q₁, (qb4, (q₂, tt)))), tt, a, at), tt)
+  Post = walkOf 𝓤 H A face′.ended stayed (face′.clauses 𝓤 H A at-mem run) .post (((κ₀, (κ₁, (κb5, (κ₂, tt)))), (q₀, (q₁, (qb5, (q₂, tt)))), tt, a, at), tt)
 
-  exits : (k : Coordinator) (zs : List Node) (us : List ℕ) (n : ℕ) (v : Val) → length zs ≡ length ys → length us ≡ length os → (facing n k zs ≡ faced (stepOf h ys (eventOf e0 e1 e2 e3) xs4 (length os))) × (us ≡ laid (stepOf h ys (eventOf e0 e1 e2 e3) xs4 (length os) .bytes) os) → Is u64 n (v ∷ [])
-      → ent 𝓤 (⋆ 𝓤 H A (toks ∷ ‵ (fres γ₀ (K.the-row .coded .code k)) ∷ ‵ (finally T.the-row γ₁ zs) ∷ ‵ (ShrSlice (named 2) κb4 u8 .own rb4 (sb4 ∷ [])) ∷ ‵ (finally u8 γ₂ us) ∷ [])) (Post v)
+  exits : (k : Coordinator) (zs : List Node) (us : List ℕ) (n : ℕ) (v : Val) → length zs ≡ length ys → length us ≡ length os → (facing n k zs ≡ faced (stepOf h ys (eventOf e0 e1 e2 e3 e4) xs5 (length os))) × (us ≡ laid (stepOf h ys (eventOf e0 e1 e2 e3 e4) xs5 (length os) .bytes) os) → Is u64 n (v ∷ [])
+      → ent 𝓤 (⋆ 𝓤 H A (toks ∷ ‵ (fres γ₀ (K.the-row .coded .code k)) ∷ ‵ (finally T.the-row γ₁ zs) ∷ ‵ (ShrSlice (named 2) κb5 u8 .own rb5 (sb5 ∷ [])) ∷ ‵ (finally u8 γ₂ us) ∷ [])) (Post v)
   exits k zs us n v l₁ l₂ e is =
-      qed W (toks ∷ ‵ (fres γ₀ (K.the-row .coded .code k)) ∷ ‵ (finally T.the-row γ₁ zs) ∷ ‵ (ShrSlice (named 2) κb4 u8 .own rb4 (sb4 ∷ [])) ∷ ‵ (finally u8 γ₂ us) ∷ []) ∵
-      suffices ! _ (ends-at 𝓤 H A face′.ended stayed (face′.clauses 𝓤 H A at-mem run) W (((κ₀, (κ₁, (κb4, (κ₂, tt)))), (q₀, (q₁, (qb4, (q₂, tt)))), tt, a, at), tt) v n (k, (zs, (tt, (tt, (tt, (tt, (tt, (us, tt)))))))) (tt, (l₁, (tt, (tt, (tt, (tt, (tt, (l₂, tt))))))))) $ says ! e $ frame ! $
+      qed W (toks ∷ ‵ (fres γ₀ (K.the-row .coded .code k)) ∷ ‵ (finally T.the-row γ₁ zs) ∷ ‵ (ShrSlice (named 2) κb5 u8 .own rb5 (sb5 ∷ [])) ∷ ‵ (finally u8 γ₂ us) ∷ []) ∵
+      suffices ! _ (ends-at 𝓤 H A face′.ended stayed (face′.clauses 𝓤 H A at-mem run) W (((κ₀, (κ₁, (κb5, (κ₂, tt)))), (q₀, (q₁, (qb5, (q₂, tt)))), tt, a, at), tt) v n (k, (zs, (tt, (tt, (tt, (tt, (tt, (tt, (us, tt))))))))) (tt, (l₁, (tt, (tt, (tt, (tt, (tt, (tt, (l₂, tt)))))))))) $ says ! e $ frame ! $
       nothing ! $
       move ! (4 ∷ 0 ∷ []) $ fjoin ! $
       move ! (3 ∷ 0 ∷ []) $ fjoin ! $
+      owned ! u8 (Is u8) (uint-makes 𝓤 H A W w8) e4 _ is4 $
+      fjoin ! $
       owned ! u64 (Is u64) (uint-makes 𝓤 H A W w64) e3 _ is3 $
       fjoin ! $
       owned ! u64 (Is u64) (uint-makes 𝓤 H A W w64) e2 _ is2 $
@@ -122,25 +124,25 @@ module _ {M : Type 1} (𝓤 : URA M) (H : Heap 𝓤) (A : Atoms 𝓤) (W : Given
       done !
 
   abbrev hear-owns : Fml
-  hear-owns = owns (u8 ∷ u8 ∷ u64 ∷ u64 ∷ []) (e0, (e1, (e2, (e3, tt)))) (vint w8 e0 ∷ [], (vint w8 e1 ∷ [], (vint w64 e2 ∷ [], (vint w64 e3 ∷ [], tt))))
+  hear-owns = owns (u8 ∷ u8 ∷ u64 ∷ u64 ∷ u8 ∷ []) (e0, (e1, (e2, (e3, (e4, tt))))) (vint w8 e0 ∷ [], (vint w8 e1 ∷ [], (vint w64 e2 ∷ [], (vint w64 e3 ∷ [], (vint w8 e4 ∷ [], tt)))))
 
   abbrev to-hear : Hear 𝓤 H A at-mem run .Ghost
-  to-hear = ((tt, tt, tt, (e0, (e1, (e2, (e3, tt)))), (vint w8 e0 ∷ [], (vint w8 e1 ∷ [], (vint w64 e2 ∷ [], (vint w64 e3 ∷ [], tt))))), tt)
+  to-hear = ((tt, tt, tt, (e0, (e1, (e2, (e3, (e4, tt))))), (vint w8 e0 ∷ [], (vint w8 e1 ∷ [], (vint w64 e2 ∷ [], (vint w64 e3 ∷ [], (vint w8 e4 ∷ [], tt)))))), tt)
 
   goes-hear : ent 𝓤 (⋆ 𝓤 H A (‵ ftrue ∷ ‵ hear-owns ∷ [])) (Hear 𝓤 H A at-mem run .pre to-hear)
   goes-hear = qed W (‵ ftrue ∷ ‵ hear-owns ∷ []) ∵ join ! $ frame ! $ done !
 
   abbrev step-args : Event → RefT Coordinator × (RefT (List Node) × (Event × (RefT (List ℕ) × (RefT (List ℕ) × Unit {0}))))
-  step-args e = (c, (x, (e, (rb4, (w, tt)))))
+  step-args e = (c, (x, (e, (rb5, (w, tt)))))
 
   abbrev step-vals : Val → List Val × (List Val × (List Val × (List Val × (List Val × Unit {0}))))
-  step-vals v = (vptr b₀ o₀ ∷ [], (s₁ ∷ [], (v ∷ [], (sb4 ∷ [], (s₂ ∷ [], tt)))))
+  step-vals v = (vptr b₀ o₀ ∷ [], (s₁ ∷ [], (v ∷ [], (sb5 ∷ [], (s₂ ∷ [], tt)))))
 
   abbrev step-owns : Event → Val → Fml
-  step-owns e v = owns (MutRef (named 0) κ₀ K.the-row ∷ MutSlice (named 1) κ₁ T.the-row ∷ E.the-row ∷ ShrSlice (named 2) κb4 u8 ∷ MutSlice (named 3) κ₂ u8 ∷ []) (step-args e) (step-vals v)
+  step-owns e v = owns (MutRef (named 0) κ₀ K.the-row ∷ MutSlice (named 1) κ₁ T.the-row ∷ E.the-row ∷ ShrSlice (named 2) κb5 u8 ∷ MutSlice (named 3) κ₂ u8 ∷ []) (step-args e) (step-vals v)
 
   abbrev to-step : Event → Val → Step 𝓤 H A at-mem run .Ghost
-  to-step e v = (((κ₀, (κ₁, (κb4, (κ₂, tt)))), (q₀, (q₁, (qb4, (q₂, tt)))), tt, step-args e, step-vals v), tt)
+  to-step e v = (((κ₀, (κ₁, (κb5, (κ₂, tt)))), (q₀, (q₁, (qb5, (q₂, tt)))), tt, step-args e, step-vals v), tt)
 
   goes-step : (e : Event) (v : Val) → ent 𝓤 (⋆ 𝓤 H A (toks ∷ ‵ (step-owns e v) ∷ [])) (Step 𝓤 H A at-mem run .pre (to-step e v))
   goes-step e v = qed W (toks ∷ ‵ (step-owns e v) ∷ []) ∵ join ! $ frame ! $ done !
@@ -152,14 +154,16 @@ module _ {M : Type 1} (𝓤 : URA M) (H : Heap 𝓤) (A : Atoms 𝓤) (W : Given
   goes-pack y v = qed W (‵ ftrue ∷ ‵ (owns (An.the-row ∷ []) (y, tt) (v ∷ [], tt)) ∷ []) ∵ join ! $ frame ! $ done !
 
   module _ (C : Calls 𝓤 H) (Λ : Loops 𝓤 H) (fm : FmC 𝓤 H (W .laws) C) (known-hear : Triple 𝓤 (C #lent·event-of) (Hear 𝓤 H A at-mem run)) (known-step : Triple 𝓤 (C #panel·step) (Step 𝓤 H A at-mem run)) (known-pack : Triple 𝓤 (C #lent·pack) (Pack 𝓤 H A at-mem run)) where
-    walk : ent 𝓤 (onEntry 𝓤 H A face′.signature (κ₀, (κ₁, (κb4, (κ₂, tt)))) (q₀, (q₁, (qb4, (q₂, tt)))) a at) (WpFn 𝓤 H C Λ code.function args Post)
+    walk : ent 𝓤 (onEntry 𝓤 H A face′.signature (κ₀, (κ₁, (κb5, (κ₂, tt)))) (q₀, (q₁, (qb5, (q₂, tt)))) a at) (WpFn 𝓤 H C Λ code.function args Post)
     walk =
-        qed W (toks ∷ ‵ (owns (MutRef (named 0) κ₀ K.the-row ∷ MutSlice (named 1) κ₁ T.the-row ∷ u8 ∷ u8 ∷ u64 ∷ u64 ∷ ShrSlice (named 2) κb4 u8 ∷ MutSlice (named 3) κ₂ u8 ∷ []) a at) ∷ []) ∵ enter ! C Λ code.function args _ $
-        alloc1 ! (λ l₀. alloc1 ! (λ l₁. alloc1 ! (λ l₂. alloc1 ! (λ l₃. alloc1 ! (λ l₄. alloc1 ! (λ l₅. alloc1 ! (λ l₆. alloc1 ! (λ l₇. alloc1 ! (λ l₈. alloc1 ! (λ l₉. alloc1 ! (λ l₁₀. alloc1 ! (λ l₁₁. alloc1 ! (λ l₁₂. alloc1 ! (λ l₁₃. alloc1 ! (λ l₁₄. alloc1 ! (λ l₁₅. alloc0 ! $ params1 ! $
-        pass1 ! (init ! 28 refl (tt, tt)) $ pass1 ! (init ! 26 refl (tt, (tt, (record { fits = room₁ .0 }, tt)))) $ pass1 ! (init ! 24 refl (uint-lawful 𝓤 H A W w8 .typed e0 _ is0 .0)) $ pass1 ! (init ! 22 refl (uint-lawful 𝓤 H A W w8 .typed e1 _ is1 .0)) $ pass1 ! (init ! 20 refl (uint-lawful 𝓤 H A W w64 .typed e2 _ is2 .0)) $ pass1 ! (init ! 18 refl (uint-lawful 𝓤 H A W w64 .typed e3 _ is3 .0)) $ pass1 ! (init ! 16 refl (tt, (tt, (record { fits = room-b4 .0 }, tt)))) $ pass1 ! (init ! 14 refl (tt, (tt, (record { fits = room₂ .0 }, tt)))) $ pass0 ! $
-        move ! (33 ∷ []) $ fsplit ! $
+        qed W (toks ∷ ‵ (owns (MutRef (named 0) κ₀ K.the-row ∷ MutSlice (named 1) κ₁ T.the-row ∷ u8 ∷ u8 ∷ u64 ∷ u64 ∷ u8 ∷ ShrSlice (named 2) κb5 u8 ∷ MutSlice (named 3) κ₂ u8 ∷ []) a at) ∷ []) ∵ enter ! C Λ code.function args _ $
+        alloc1 ! (λ l₀. alloc1 ! (λ l₁. alloc1 ! (λ l₂. alloc1 ! (λ l₃. alloc1 ! (λ l₄. alloc1 ! (λ l₅. alloc1 ! (λ l₆. alloc1 ! (λ l₇. alloc1 ! (λ l₈. alloc1 ! (λ l₉. alloc1 ! (λ l₁₀. alloc1 ! (λ l₁₁. alloc1 ! (λ l₁₂. alloc1 ! (λ l₁₃. alloc1 ! (λ l₁₄. alloc1 ! (λ l₁₅. alloc1 ! (λ l₁₆. alloc0 ! $ params1 ! $
+        pass1 ! (init ! 30 refl (tt, tt)) $ pass1 ! (init ! 28 refl (tt, (tt, (record { fits = room₁ .0 }, tt)))) $ pass1 ! (init ! 26 refl (uint-lawful 𝓤 H A W w8 .typed e0 _ is0 .0)) $ pass1 ! (init ! 24 refl (uint-lawful 𝓤 H A W w8 .typed e1 _ is1 .0)) $ pass1 ! (init ! 22 refl (uint-lawful 𝓤 H A W w64 .typed e2 _ is2 .0)) $ pass1 ! (init ! 20 refl (uint-lawful 𝓤 H A W w64 .typed e3 _ is3 .0)) $ pass1 ! (init ! 18 refl (uint-lawful 𝓤 H A W w8 .typed e4 _ is4 .0)) $ pass1 ! (init ! 16 refl (tt, (tt, (record { fits = room-b5 .0 }, tt)))) $ pass1 ! (init ! 14 refl (tt, (tt, (record { fits = room₂ .0 }, tt)))) $ pass0 ! $
+        move ! (35 ∷ []) $ fsplit ! $
         move ! (1 ∷ []) $ fsplit ! $
         move ! (1 ∷ []) $ fsplit ! $
+        drop ! $
+        fsplit ! $
         drop ! $
         fsplit ! $
         drop ! $
@@ -172,6 +176,8 @@ module _ {M : Type 1} (𝓤 : URA M) (H : Heap 𝓤) (A : Atoms 𝓤) (W : Given
         move ! (1 ∷ []) $ drop ! $
         -- `event_of`
         nothing ! $
+        owned ! u8 (Is u8) (uint-makes 𝓤 H A W w8) e4 _ is4 $
+        fjoin ! $
         owned ! u64 (Is u64) (uint-makes 𝓤 H A W w64) e3 _ is3 $
         fjoin ! $
         owned ! u64 (Is u64) (uint-makes 𝓤 H A W w64) e2 _ is2 $
@@ -182,20 +188,20 @@ module _ {M : Type 1} (𝓤 : URA M) (H : Heap 𝓤) (A : Atoms 𝓤) (W : Given
         fjoin ! $
         nothing ! $
         use2 W (raw (Hear 𝓤 H A at-mem run .pre to-hear)) goes-hear $
-        calls-at ! fm (Hear 𝓤 H A at-mem run) known-hear to-hear (and-then ! (load ! (from ! (stop !)) (look ! 29 refl)) (and-then ! (load ! (from ! (stop !)) (look ! 27 refl)) (and-then ! (load ! (from ! (stop !)) (look ! 25 refl)) (and-then ! (load ! (from ! (stop !)) (look ! 23 refl)) (no-more !))))) (λ v.
-        use1 W (later (some (λ (e : Event). (‵ ftrue ⊛ ‵ (E.the-row .own e (v ∷ []))) ⊛ raw (ensured 𝓤 H A hear′.ended (hear′.clauses 𝓤 H A at-mem run) tt (e0, (e1, (e2, (e3, tt)))) tt e)))) (id⊢ 𝓤 _) $ await ! tt $ pick ! (λ e. split ! $
-        move ! (1 ∷ []) $ use1 W (raw (fact 𝓤 (e ≡ eventOf e0 e1 e2 e3))) (hear-of 𝓤 H A at-mem run e0 e1 e2 e3 e) $ heard ! (e ≡ eventOf e0 e1 e2 e3) (λ ee.
+        calls-at ! fm (Hear 𝓤 H A at-mem run) known-hear to-hear (and-then ! (load ! (from ! (stop !)) (look ! 31 refl)) (and-then ! (load ! (from ! (stop !)) (look ! 29 refl)) (and-then ! (load ! (from ! (stop !)) (look ! 27 refl)) (and-then ! (load ! (from ! (stop !)) (look ! 25 refl)) (and-then ! (load ! (from ! (stop !)) (look ! 23 refl)) (no-more !)))))) (λ v.
+        use1 W (later (some (λ (e : Event). (‵ ftrue ⊛ ‵ (E.the-row .own e (v ∷ []))) ⊛ raw (ensured 𝓤 H A hear′.ended (hear′.clauses 𝓤 H A at-mem run) tt (e0, (e1, (e2, (e3, (e4, tt))))) tt e)))) (id⊢ 𝓤 _) $ await ! tt $ pick ! (λ e. split ! $
+        move ! (1 ∷ []) $ use1 W (raw (fact 𝓤 (e ≡ eventOf e0 e1 e2 e3 e4))) (hear-of 𝓤 H A at-mem run e0 e1 e2 e3 e4 e) $ heard ! (e ≡ eventOf e0 e1 e2 e3 e4) (λ ee.
         split ! $
         drop ! $
         peeks ! E.the-row (Is E.the-row) (shows′ 𝓤 H A E.the-row) e (v ∷ []) (λ ise. drop ! $
         land ! (from ! (stop !)) (init ! 16 refl (EL.lawful E.the-type E′.the-laws 𝓤 H A W tt .typed e _ ise .0)) $
         -- `step`
-        assigns ! (addr ! (from ! (hop ! (look ! 32 refl) (stop !)))) (from ! (stop !)) (init ! 12 refl (tt, tt)) $
-        assigns ! (addr ! (from ! (fld ! refl (hop ! (look-in ! 30 (sub ! 0 refl (whole !))) (stop !))))) (from ! (stop !)) (init ! 10 refl (tt, tt)) $
-        assigns ! (agg ! (and-then ! (load ! (from ! (stop !)) (look ! 10 refl)) (and-then ! (load ! (from ! (fld ! refl (stop !))) (look-in ! 30 (sub ! 1 refl (whole !)))) (no-more !)))) (from ! (stop !)) (init ! 8 refl (tt, (tt, (record { fits = room₁ .0 }, tt)))) $
+        assigns ! (addr ! (from ! (hop ! (look ! 34 refl) (stop !)))) (from ! (stop !)) (init ! 12 refl (tt, tt)) $
+        assigns ! (addr ! (from ! (fld ! refl (hop ! (look-in ! 32 (sub ! 0 refl (whole !))) (stop !))))) (from ! (stop !)) (init ! 10 refl (tt, tt)) $
+        assigns ! (agg ! (and-then ! (load ! (from ! (stop !)) (look ! 10 refl)) (and-then ! (load ! (from ! (fld ! refl (stop !))) (look-in ! 32 (sub ! 1 refl (whole !)))) (no-more !)))) (from ! (stop !)) (init ! 8 refl (tt, (tt, (record { fits = room₁ .0 }, tt)))) $
         assigns ! (addr ! (from ! (fld ! refl (hop ! (look-in ! 18 (sub ! 0 refl (whole !))) (stop !))))) (from ! (stop !)) (init ! 6 refl (tt, tt)) $
         assigns ! (agg ! (and-then ! (load ! (from ! (stop !)) (look ! 6 refl)) (and-then ! (load ! (from ! (fld ! refl (stop !))) (look-in ! 18 (sub ! 1 refl (whole !)))) (no-more !)))) (from ! (stop !)) (init ! 4 refl (tt, (tt, (record { fits = room₂ .0 }, tt)))) $
-        move ! (1 ∷ []) $ use1 W (‵ (ShrSlice (named 2) κb4 u8 .own rb4 (sb4 ∷ [])) ⊛ ‵ (ShrSlice (named 2) κb4 u8 .own rb4 (sb4 ∷ []))) (shr-slice-copy 𝓤 H A W (named 2) κb4 u8 .twice rb4 (sb4 ∷ [])) $ split ! $
+        move ! (1 ∷ []) $ use1 W (‵ (ShrSlice (named 2) κb5 u8 .own rb5 (sb5 ∷ [])) ⊛ ‵ (ShrSlice (named 2) κb5 u8 .own rb5 (sb5 ∷ []))) (shr-slice-copy 𝓤 H A W (named 2) κb5 u8 .twice rb5 (sb5 ∷ [])) $ split ! $
         nothing ! $
         move ! (3 ∷ 0 ∷ []) $ fjoin ! $
         move ! (2 ∷ 0 ∷ []) $ fjoin ! $
@@ -203,11 +209,11 @@ module _ {M : Type 1} (𝓤 : URA M) (H : Heap 𝓤) (A : Atoms 𝓤) (W : Given
         fjoin ! $
         move ! (2 ∷ 0 ∷ []) $ fjoin ! $
         move ! (2 ∷ 0 ∷ []) $ fjoin ! $
-        move ! (34 ∷ 0 ∷ []) $ use2 W (raw (Step 𝓤 H A at-mem run .pre (to-step e v))) (goes-step e v) $
+        move ! (36 ∷ 0 ∷ []) $ use2 W (raw (Step 𝓤 H A at-mem run .pre (to-step e v))) (goes-step e v) $
         calls-at ! fm (Step 𝓤 H A at-mem run) known-step (to-step e v) (and-then ! (load ! (from ! (stop !)) (look ! 10 refl)) (and-then ! (load ! (from ! (stop !)) (look ! 6 refl)) (and-then ! (load ! (from ! (stop !)) (look ! 14 refl)) (and-then ! (load ! (from ! (stop !)) (look ! 18 refl)) (and-then ! (load ! (from ! (stop !)) (look ! 2 refl)) (no-more !)))))) (λ z.
-        use1 W (later (some (λ (y : Outcome). (toks ⊛ ‵ (An.the-row .own y (z ∷ []))) ⊛ raw (ensured 𝓤 H A step′.ended (step′.clauses 𝓤 H A at-mem run) (κ₀, (κ₁, (κb4, (κ₂, tt)))) (step-args e) tt y)))) (id⊢ 𝓤 _) $ await ! tt $ pick ! (λ y. split ! $
-        move ! (1 ∷ []) $ use1 W (some (λ (ws : Coordinator × (List Node × (Unit {0} × (Unit {0} × (List ℕ × Unit {0}))))). ‵ (lasts step′.ended (κ₀, (κ₁, (κb4, (κ₂, tt)))) (step-args e) ws) ⊛ raw (fact 𝓤 ((inPlace y (ws .0) (ws .1 .0) ≡ shows (stepOf h ys e xs4 (length os))) × ((ws .1 .1 .1 .1 .0) ≡ laid (stepOf h ys e xs4 (length os) .bytes) os))))) (id⊢ 𝓤 _) $ pick ! (λ ws. split ! $
-        move ! (1 ∷ []) $ heard ! ((inPlace y (ws .0) (ws .1 .0) ≡ shows (stepOf h ys e xs4 (length os))) × ((ws .1 .1 .1 .1 .0) ≡ laid (stepOf h ys e xs4 (length os) .bytes) os)) (λ ey.
+        use1 W (later (some (λ (y : Outcome). (toks ⊛ ‵ (An.the-row .own y (z ∷ []))) ⊛ raw (ensured 𝓤 H A step′.ended (step′.clauses 𝓤 H A at-mem run) (κ₀, (κ₁, (κb5, (κ₂, tt)))) (step-args e) tt y)))) (id⊢ 𝓤 _) $ await ! tt $ pick ! (λ y. split ! $
+        move ! (1 ∷ []) $ use1 W (some (λ (ws : Coordinator × (List Node × (Unit {0} × (Unit {0} × (List ℕ × Unit {0}))))). ‵ (lasts step′.ended (κ₀, (κ₁, (κb5, (κ₂, tt)))) (step-args e) ws) ⊛ raw (fact 𝓤 ((inPlace y (ws .0) (ws .1 .0) ≡ shows (stepOf h ys e xs5 (length os))) × ((ws .1 .1 .1 .1 .0) ≡ laid (stepOf h ys e xs5 (length os) .bytes) os))))) (id⊢ 𝓤 _) $ pick ! (λ ws. split ! $
+        move ! (1 ∷ []) $ heard ! ((inPlace y (ws .0) (ws .1 .0) ≡ shows (stepOf h ys e xs5 (length os))) × ((ws .1 .1 .1 .1 .0) ≡ laid (stepOf h ys e xs5 (length os) .bytes) os)) (λ ey.
         fsplit ! $
         move ! (1 ∷ []) $ fsplit ! $
         fsplit ! $
@@ -235,21 +241,21 @@ module _ {M : Type 1} (𝓤 : URA M) (H : Heap 𝓤) (A : Atoms 𝓤) (W : Given
         split ! $
         drop ! $
         peeks ! u64 (Is u64) (shows′ 𝓤 H A u64) n (u ∷ []) (λ isn. drop ! $
-        land ! (from ! (stop !)) (init ! 35 refl (uint-lawful 𝓤 H A W w64 .typed n _ isn .0)) $
-        returns ! (look ! 35 refl) $ forget ! 35 refl $ forget ! 33 refl $ forget ! 31 refl $ forget ! 29 refl $ forget ! 27 refl $ forget ! 25 refl $ forget ! 23 refl $ forget ! 21 refl $ forget ! 19 refl $ forget ! 17 refl $ forget ! 15 refl $ forget ! 13 refl $ forget ! 11 refl $ forget ! 9 refl $ forget ! 7 refl $ forget ! 5 refl $
-        move ! (35 ∷ 36 ∷ []) $ free1 ! $ move ! (33 ∷ 34 ∷ []) $ free1 ! $ move ! (31 ∷ 32 ∷ []) $ free1 ! $ move ! (29 ∷ 30 ∷ []) $ free1 ! $ move ! (27 ∷ 28 ∷ []) $ free1 ! $ move ! (25 ∷ 26 ∷ []) $ free1 ! $ move ! (23 ∷ 24 ∷ []) $ free1 ! $ move ! (21 ∷ 22 ∷ []) $ free1 ! $ move ! (19 ∷ 20 ∷ []) $ free1 ! $ move ! (17 ∷ 18 ∷ []) $ free1 ! $ move ! (15 ∷ 16 ∷ []) $ free1 ! $ move ! (13 ∷ 14 ∷ []) $ free1 ! $ move ! (11 ∷ 12 ∷ []) $ free1 ! $ move ! (9 ∷ 10 ∷ []) $ free1 ! $ move ! (7 ∷ 8 ∷ []) $ free1 ! $ move ! (5 ∷ 6 ∷ []) $ free1 ! $ free0 ! $
+        land ! (from ! (stop !)) (init ! 37 refl (uint-lawful 𝓤 H A W w64 .typed n _ isn .0)) $
+        returns ! (look ! 37 refl) $ forget ! 37 refl $ forget ! 35 refl $ forget ! 33 refl $ forget ! 31 refl $ forget ! 29 refl $ forget ! 27 refl $ forget ! 25 refl $ forget ! 23 refl $ forget ! 21 refl $ forget ! 19 refl $ forget ! 17 refl $ forget ! 15 refl $ forget ! 13 refl $ forget ! 11 refl $ forget ! 9 refl $ forget ! 7 refl $ forget ! 5 refl $
+        move ! (37 ∷ 38 ∷ []) $ free1 ! $ move ! (35 ∷ 36 ∷ []) $ free1 ! $ move ! (33 ∷ 34 ∷ []) $ free1 ! $ move ! (31 ∷ 32 ∷ []) $ free1 ! $ move ! (29 ∷ 30 ∷ []) $ free1 ! $ move ! (27 ∷ 28 ∷ []) $ free1 ! $ move ! (25 ∷ 26 ∷ []) $ free1 ! $ move ! (23 ∷ 24 ∷ []) $ free1 ! $ move ! (21 ∷ 22 ∷ []) $ free1 ! $ move ! (19 ∷ 20 ∷ []) $ free1 ! $ move ! (17 ∷ 18 ∷ []) $ free1 ! $ move ! (15 ∷ 16 ∷ []) $ free1 ! $ move ! (13 ∷ 14 ∷ []) $ free1 ! $ move ! (11 ∷ 12 ∷ []) $ free1 ! $ move ! (9 ∷ 10 ∷ []) $ free1 ! $ move ! (7 ∷ 8 ∷ []) $ free1 ! $ move ! (5 ∷ 6 ∷ []) $ free1 ! $ free0 ! $
         keep ! (0 ∷ 3 ∷ 2 ∷ 4 ∷ 1 ∷ []) $
-        by ! (exits (ws .0) (ws .1 .0) (ws .1 .1 .1 .1 .0) n _ lz lu (step-faced y h (ws .0) ys (ws .1 .0) e (eventOf e0 e1 e2 e3) xs4 os (ws .1 .1 .1 .1 .0) n ee ey en) isn))))))))))))))))))))))))))))))))
+        by ! (exits (ws .0) (ws .1 .0) (ws .1 .1 .1 .1 .0) n _ lz lu (step-faced y h (ws .0) ys (ws .1 .0) e (eventOf e0 e1 e2 e3 e4) xs5 os (ws .1 .1 .1 .1 .0) n ee ey en) isn)))))))))))))))))))))))))))))))))
 
 module _ {M : Type 1} (𝓤 : URA M) (H : Heap 𝓤) (A : Atoms 𝓤) (W : Given 𝓤 H A) (at-mem : Memory → SProp 𝓤) (run : Routine → Fun 𝓤) where
   walks : (C : Calls 𝓤 H) (Λ : Loops 𝓤 H) → FmC 𝓤 H (W .laws) C → Triple 𝓤 (C #lent·event-of) (Hear 𝓤 H A at-mem run) → Triple 𝓤 (C #panel·step) (Step 𝓤 H A at-mem run) → Triple 𝓤 (C #lent·pack) (Pack 𝓤 H A at-mem run)
       → Walks 𝓤 H A face′.ended stayed (WpFn 𝓤 H C Λ code.function) (face′.clauses 𝓤 H A at-mem run)
-  walks C Λ fm known-hear known-step known-pack = walked 𝓤 H A face′.ended stayed (face′.clauses 𝓤 H A at-mem run) (WpFn 𝓤 H C Λ code.function) (λ κs. (ptr-vals, (slice-vals, (uint-vals w8, (uint-vals w8, (uint-vals w64, (uint-vals w64, (slice-vals, (slice-vals, tt)))))))))
-      (λ κs. (mut-tells (named 0) (κs .0) K.the-row, (mut-slice-tells (named 1) (κs .1 .0) T.the-row, (uint-tells w8, (uint-tells w8, (uint-tells w64, (uint-tells w64, (shr-slice-tells (named 2) (κs .1 .1 .0) u8, (mut-slice-tells (named 3) (κs .1 .1 .1 .0) u8, tt)))))))))
-      (λ κs qs bounds a g are. via 𝓤 _ (fst∗ 𝓤 _ (emp 𝓤)) (walk 𝓤 H A W at-mem run (κs .0) (κs .1 .0) (κs .1 .1 .0) (κs .1 .1 .1 .0) (qs .0) (qs .1 .0) (qs .1 .1 .0) (qs .1 .1 .1 .0) (a .0 .ptr .0) (a .0 .ptr .1) (a .0 .name) (a .0 .now) (a .1 .0 .ptr .0) (a .1 .0 .ptr .1) (a .1 .0 .name) (a .1 .0 .now) (a .1 .1 .1 .1 .1 .1 .1 .0 .ptr .0) (a .1 .1 .1 .1 .1 .1 .1 .0 .ptr .1) (a .1 .1 .1 .1 .1 .1 .1 .0 .name) (a .1 .1 .1 .1 .1 .1 .1 .0 .now) (are .1 .0 .0 .1) (are .1 .1 .1 .1 .1 .1 .1 .0 .0 .1) (a .1 .1 .0) (are .1 .1 .0) (a .1 .1 .1 .0) (are .1 .1 .1 .0) (a .1 .1 .1 .1 .0) (are .1 .1 .1 .1 .0) (a .1 .1 .1 .1 .1 .0) (are .1 .1 .1 .1 .1 .0) (a .1 .1 .1 .1 .1 .1 .0 .ptr .0) (a .1 .1 .1 .1 .1 .1 .0 .ptr .1) (a .1 .1 .1 .1 .1 .1 .0 .name) (a .1 .1 .1 .1 .1 .1 .0 .now) (are .1 .1 .1 .1 .1 .1 .0 .0 .1) C Λ fm known-hear known-step known-pack))
+  walks C Λ fm known-hear known-step known-pack = walked 𝓤 H A face′.ended stayed (face′.clauses 𝓤 H A at-mem run) (WpFn 𝓤 H C Λ code.function) (λ κs. (ptr-vals, (slice-vals, (uint-vals w8, (uint-vals w8, (uint-vals w64, (uint-vals w64, (uint-vals w8, (slice-vals, (slice-vals, tt))))))))))
+      (λ κs. (mut-tells (named 0) (κs .0) K.the-row, (mut-slice-tells (named 1) (κs .1 .0) T.the-row, (uint-tells w8, (uint-tells w8, (uint-tells w64, (uint-tells w64, (uint-tells w8, (shr-slice-tells (named 2) (κs .1 .1 .0) u8, (mut-slice-tells (named 3) (κs .1 .1 .1 .0) u8, tt))))))))))
+      (λ κs qs bounds a g are. via 𝓤 _ (fst∗ 𝓤 _ (emp 𝓤)) (walk 𝓤 H A W at-mem run (κs .0) (κs .1 .0) (κs .1 .1 .0) (κs .1 .1 .1 .0) (qs .0) (qs .1 .0) (qs .1 .1 .0) (qs .1 .1 .1 .0) (a .0 .ptr .0) (a .0 .ptr .1) (a .0 .name) (a .0 .now) (a .1 .0 .ptr .0) (a .1 .0 .ptr .1) (a .1 .0 .name) (a .1 .0 .now) (a .1 .1 .1 .1 .1 .1 .1 .1 .0 .ptr .0) (a .1 .1 .1 .1 .1 .1 .1 .1 .0 .ptr .1) (a .1 .1 .1 .1 .1 .1 .1 .1 .0 .name) (a .1 .1 .1 .1 .1 .1 .1 .1 .0 .now) (are .1 .0 .0 .1) (are .1 .1 .1 .1 .1 .1 .1 .1 .0 .0 .1) (a .1 .1 .0) (are .1 .1 .0) (a .1 .1 .1 .0) (are .1 .1 .1 .0) (a .1 .1 .1 .1 .0) (are .1 .1 .1 .1 .0) (a .1 .1 .1 .1 .1 .0) (are .1 .1 .1 .1 .1 .0) (a .1 .1 .1 .1 .1 .1 .0) (are .1 .1 .1 .1 .1 .1 .0) (a .1 .1 .1 .1 .1 .1 .1 .0 .ptr .0) (a .1 .1 .1 .1 .1 .1 .1 .0 .ptr .1) (a .1 .1 .1 .1 .1 .1 .1 .0 .name) (a .1 .1 .1 .1 .1 .1 .1 .0 .now) (are .1 .1 .1 .1 .1 .1 .1 .0 .0 .1) C Λ fm known-hear known-step known-pack))
 
   goes : AllGo 𝓤 H A W 4 (face′.signature .params) (face′.ended .kept) stayed
-  goes = (goes-gave-ref 𝓤 H A W 4 0 tt (plain (λ _. K.the-row)), (goes-gave-slice 𝓤 H A W 4 1 tt (plain (λ _. T.the-row)), (goes-none 𝓤 H A W 4 (λ _. u8) yes (λ κs x f. refl), (goes-none 𝓤 H A W 4 (λ _. u8) yes (λ κs x f. refl), (goes-none 𝓤 H A W 4 (λ _. u64) yes (λ κs x f. refl), (goes-none 𝓤 H A W 4 (λ _. u64) yes (λ κs x f. refl), (goes-none-slice 𝓤 H A W 4 (2 ∷ []) tt (plain (λ _. u8)) yes, (goes-gave-slice 𝓤 H A W 4 3 tt (plain (λ _. u8)), tt))))))))
+  goes = (goes-gave-ref 𝓤 H A W 4 0 tt (plain (λ _. K.the-row)), (goes-gave-slice 𝓤 H A W 4 1 tt (plain (λ _. T.the-row)), (goes-none 𝓤 H A W 4 (λ _. u8) yes (λ κs x f. refl), (goes-none 𝓤 H A W 4 (λ _. u8) yes (λ κs x f. refl), (goes-none 𝓤 H A W 4 (λ _. u64) yes (λ κs x f. refl), (goes-none 𝓤 H A W 4 (λ _. u64) yes (λ κs x f. refl), (goes-none 𝓤 H A W 4 (λ _. u8) yes (λ κs x f. refl), (goes-none-slice 𝓤 H A W 4 (2 ∷ []) tt (plain (λ _. u8)) yes, (goes-gave-slice 𝓤 H A W 4 3 tt (plain (λ _. u8)), tt)))))))))
 
 meets : {M : Type 1} (𝓤 : URA M) (H : Heap 𝓤) (A : Atoms 𝓤) (W : Given 𝓤 H A) (at-mem : Memory → SProp 𝓤) (run : Routine → Fun 𝓤) (𝓣 : Tables 𝓤 H) → Triple 𝓤 (𝓣 .C #lent·event-of) (Hear 𝓤 H A at-mem run) → Triple 𝓤 (𝓣 .C #panel·step) (Step 𝓤 H A at-mem run) → Triple 𝓤 (𝓣 .C #lent·pack) (Pack 𝓤 H A at-mem run)
     → Meets 𝓤 H A face′.signature (WpFn 𝓤 H (𝓣 .C) (𝓣 .Λ) code.function) (face′.spec 𝓤 H A at-mem run)

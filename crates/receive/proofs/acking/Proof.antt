@@ -27,7 +27,7 @@ same-length c = search needs
 returns : tie.Need-returns
 returns c =
     let args = c .before .before .before .before .before .before .before .before .before .args in
-    λ b co t s k. rw (c .changing .ensures) (shows-acking s b (args .board) k (args .answer) (args .after) (now (args .out)) _ (Written (c .before .before .n .given .0 .0)) (rw (c .before .before .n .given .1) at (c .before .before .before .before .before .before .write-signed .ensures)))
+    λ b co t s k. rw (c .changing .ensures) (shows-acking s b (args .board) (k .0) (k .1) (args .answer) (args .after) (now (args .out)) _ (Written (c .before .before .n .given .0 .0)) (rw (c .before .before .n .given .1) at (c .before .before .before .before .before .before .write-signed .ensures)))
 
 same-length-2 : tie.Need-same-length-2
 same-length-2 c = search needs
@@ -35,7 +35,7 @@ same-length-2 c = search needs
 returns-2 : tie.Need-returns-2
 returns-2 c =
     let args = c .before .before .before .before .before .before .before .before .before .args in
-    λ b co t s k. rw (c .refusing .ensures) (shows-acking s b (args .board) k (args .answer) (args .after) (now (args .out)) _ (Refused (c .before .before .refusal .given .0 .0)) (rw (c .before .before .refusal .given .1) at (c .before .before .before .before .before .before .write-signed .ensures)))
+    λ b co t s k. rw (c .refusing .ensures) (shows-acking s b (args .board) (k .0) (k .1) (args .answer) (args .after) (now (args .out)) _ (Refused (c .before .before .refusal .given .0 .0)) (rw (c .before .before .refusal .given .1) at (c .before .before .before .before .before .before .write-signed .ensures)))
 
 pub acking-spec : {M : Type 1} → statement M
 acking-spec =

@@ -33,7 +33,7 @@ same-length c = search needs
 returns-2 : tie.Need-returns-2
 returns-2 c =
     let args = c .before .before .before .before .before .before .before .before .before .before .args in
-    λ b brought co t s k. shows-as (now (args .out)) _ (waited-heard s (args .header) (now (args .payload)) _ (args .exchange) (args .board) (args .requester) (args .acked) (c .before .before .before .before .before .before .before .address-at .ensures) (c .before .before .before .before .before .if1 .left) (c .before .before .before .before .heard-in .ensures co t (args .board) s (k .0) (k .1))) (c .before .before .taken .ensures b brought co t s k)
+    λ b brought co t s k. shows-as (now (args .out)) _ (waited-heard s (args .header) (now (args .payload)) _ (args .exchange) (args .board) (args .requester) (args .acked) (c .before .before .before .before .before .before .before .address-at .ensures) (c .before .before .before .before .before .if1 .left) (c .before .before .before .before .heard-in .ensures co t (args .board) s (k .0) (k .1) (k .2))) (c .before .before .taken .ensures b brought co t s (k .0, k .2))
 
 pub awaited-spec : {M : Type 1} → statement M
 awaited-spec =

@@ -1,5 +1,6 @@
 -- `receive::heard_in` meets its contract: each kind of wait asks its own function.
-use mathlib.Core.Path.{refl, _∙_}
+use mathlib.Core.Path.{refl, ap, _∙_}
+use Rattle.board.specs.declared.Node.{Node}
 use Rattle.accept.proofs.Told.{same-heard}
 use Rattle.receive.proofs.Leaving.{list-seen}
 use borrow.Author.Needs.{needs}
@@ -37,16 +38,16 @@ after-return-requires : tie.Need-after-return-requires
 after-return-requires c κs = search needs
 
 returns : tie.Need-returns
-returns c = λ co t board s k n. rw (c .before .enum-told .given .1) (same-heard _ _ (c .after-offer .ensures ∙ rw (c .before .before .before .is-ack .ensures, n) refl))
+returns c = λ co t board s k v n. rw (c .before .enum-told .given .1) (same-heard _ _ (c .after-offer .ensures ∙ rw (c .before .before .before .is-ack .ensures, n) refl))
 
 returns-2 : tie.Need-returns-2
-returns-2 c = λ co t board s k n. rw (c .before .before .enum-told2 .given .1) (same-heard _ _ (c .after-list .ensures ∙ rw (c .before .same-list .ensures, list-seen s k _) refl))
+returns-2 c = λ co t board s k v n. rw (c .before .before .enum-told2 .given .1) (same-heard _ _ (c .after-list .ensures ∙ rw (c .before .same-list .ensures, list-seen s k v (ap (λ (m : Node). m .version) n) _) refl))
 
 returns-3 : tie.Need-returns-3
-returns-3 c = λ co t board s k n. rw (c .before .enum-told3 .given .1) (same-heard _ _ (c .after-forward .ensures ∙ rw (c .before .before .before .is-ack .ensures, n, s .state) refl))
+returns-3 c = λ co t board s k v n. rw (c .before .enum-told3 .given .1) (same-heard _ _ (c .after-forward .ensures ∙ rw (c .before .before .before .is-ack .ensures, n, s .state) refl))
 
 returns-4 : tie.Need-returns-4
-returns-4 c = λ co t board s k n. rw (c .before .enum-told4 .given .1) (same-heard _ _ (c .after-return .ensures ∙ rw (c .before .before .before .is-ack .ensures, n) refl))
+returns-4 c = λ co t board s k v n. rw (c .before .enum-told4 .given .1) (same-heard _ _ (c .after-return .ensures ∙ rw (c .before .before .before .is-ack .ensures, n) refl))
 
 pub heard-in-spec : {M : Type 1} → statement M
 heard-in-spec =

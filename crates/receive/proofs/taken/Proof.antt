@@ -46,7 +46,7 @@ same-length c = search needs
 returns-3 : tie.Need-returns-3
 returns-3 c =
     let args = c .before .before .before .before .before .before .before .before .args in
-    λ b brought co t s k. shows-as (now (args .out)) _ (c .before .before .before .before .following .ensures b (now (args .payload)) brought co t (args .exchange) _ s (k .0)) (c .before .before .acking .ensures b co t s (ap (λ (n : Node). n .index) (k .1)))
+    λ b brought co t s k. shows-as (now (args .out)) _ (c .before .before .before .before .following .ensures b (now (args .payload)) brought co t (args .exchange) _ s (k .0)) (c .before .before .acking .ensures b co t s (ap (λ (n : Node). n .version) (k .1), ap (λ (n : Node). n .index) (k .1)))
 
 pub taken-spec : {M : Type 1} → statement M
 taken-spec =

@@ -26,7 +26,7 @@ same-length c = search needs
 
 returns : tie.Need-returns
 returns c =
-    λ b brought co t s k. rw (c .before .before .before .before .before .phase .given .1) (c .before .before .awaited .ensures b brought co t s (k .0 .0, node-named co t (k .1 .1) (c .before .before .before .before .before .phase .given .1) (k .1 .0)))
+    λ b brought co t s k. rw (c .before .before .before .before .before .phase .given .1) (c .before .before .awaited .ensures b brought co t s (k .0 .0, k .0 .1, node-named co t (k .1 .1) (c .before .before .before .before .before .phase .given .1) (k .1 .0)))
 
 same-length-2 : tie.Need-same-length-2
 same-length-2 c = search needs

@@ -91,6 +91,9 @@ enum-told-28 c = search needs
 enum-told-29 : tie.Need-enum-told-29
 enum-told-29 c = search needs
 
+enum-told-30 : tie.Need-enum-told-30
+enum-told-30 c = search needs
+
 returns : tie.Need-returns
 returns c = rw (c .enum-told .given .1) refl
 
@@ -178,6 +181,9 @@ returns-28 c = rw (c .enum-told28 .given .1) refl
 returns-29 : tie.Need-returns-29
 returns-29 c = rw (c .enum-told29 .given .1) refl
 
+returns-30 : tie.Need-returns-30
+returns-30 c = rw (c .enum-told30 .given .1) refl
+
 pub number-spec : {M : Type 1} → statement M
 number-spec =
     tie.close
@@ -211,6 +217,7 @@ number-spec =
     enum-told-27
     enum-told-28
     enum-told-29
+    enum-told-30
     returns
     returns-2
     returns-3
@@ -239,4 +246,5 @@ number-spec =
     returns-26
     returns-27
     returns-28
-    returns-29)
+    returns-29
+    returns-30)

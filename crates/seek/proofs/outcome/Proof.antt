@@ -32,7 +32,7 @@ returns-2 : tie.Need-returns-2
 returns-2 c = λ p co t s k.
     let args = c .before .before .before .before .before .before .args in
     makes-ended p co t (c .before .resting .result) (c .ending .ensures) ∙
-    makes-heard s p (ended co) (args .position) (args .found .mac) (k .1) (c .before .before .hearing .ensures) Rest (c .before .resting .ensures) ∙
+    makes-heard s p (ended co) (args .position) (args .found .mac) (k .2) (c .before .before .hearing .ensures) Rest (c .before .resting .ensures) ∙
     sym (ap shows (outcome-ended co t (args .found) (ap (λ (x : Shown). x .joined) (c .before .before .before .before .before .join-found .ensures p co t s k)) (args .position) (c .before .before .before .if1 .left)))
 
 pub outcome-spec : {M : Type 1} → statement M

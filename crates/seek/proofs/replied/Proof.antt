@@ -11,7 +11,7 @@ use Rattle.steps.specs.After.{shows}
 use Rattle.steps.specs.Seek.{answered, present}
 use Rattle.steps.proofs.Shows.{leaves-as}
 use Rattle.change.proofs.Making.{makes-refusal, made}
-use Rattle.seek.specs.Parts.{macPlace, foundAt, teller}
+use Rattle.seek.specs.Parts.{macPlace, versionIn, foundAt, teller}
 use Rattle.seek.proofs.Answers.{leaves-answered, settles}
 use borrow.Author.Needs.{needs}
 use Rattle.seek.proofs.replied.Statement.{statement}
@@ -26,14 +26,17 @@ near Assigned = omega arith
 near (Refused r) = omega arith
 
 -- who sent it, by the case that the reply is
-told : (payload : List ℕ) {place : ℕ} {f : Found} (x y : Reply) → f ≡ foundAt payload place → place ≡ macPlace x → x ≡ y → f ≡ foundAt payload (macPlace y)
-told payload x y h e q = h ∙ ap (foundAt payload) (e ∙ ap macPlace q)
+told : (payload : List ℕ) {place version : ℕ} {f : Found} (x y : Reply) (packet : ℕ) (found : Found) → f ≡ foundAt payload place version → place ≡ macPlace x → version ≡ versionIn x packet found → x ≡ y → f ≡ foundAt payload (macPlace y) (versionIn y packet found)
+told payload x y packet found h e v q = h ∙ (λ i. foundAt payload ((e ∙ ap macPlace q) i) ((v ∙ ap (λ (z : Reply). versionIn z packet found) q) i))
+
+version-in-requires : tie.Need-version-in-requires
+version-in-requires c κs = search needs
 
 mac-place-requires : tie.Need-mac-place-requires
 mac-place-requires c κs = search needs
 
 found-at-requires : tie.Need-found-at-requires
-found-at-requires c κs = omega (arith, c .mac-place .ensures, near (c .before .before .before .args .reply))
+found-at-requires c κs = omega (arith, c .mac-place .ensures, near (c .before .before .before .before .args .reply))
 
 enum-told : tie.Need-enum-told
 enum-told c = search needs
@@ -61,15 +64,15 @@ settled-requires c κs = search needs
 
 returns : tie.Need-returns
 returns c = λ p co t s k.
-    let args = c .before .before .before .before .before .before .before .args in
-    let sent = told (now (args .payload)) (args .reply) Discovered (c .before .before .before .found-at .ensures) (c .before .before .before .before .mac-place .ensures) (c .before .enum-told .given .1) in
+    let args = c .before .before .before .before .before .before .before .before .args in
+    let sent = told (now (args .payload)) (args .reply) Discovered (args .packet) (args .seen .state .found) (c .before .before .before .found-at .ensures) (c .before .before .before .before .mac-place .ensures) (c .before .before .before .before .before .version-in .ensures) (c .before .enum-told .given .1) in
     rw (c .before .enum-told .given .1) (leaves-answered (made (c .answered .result) p co t) (now (args .out)) co t _ (c .answered .ensures p co t s k ∙ ap (λ (f : Found). shows (answered co t f)) sent))
 
 returns-2 : tie.Need-returns-2
 returns-2 c = λ p co t s k.
-    let args = c .before .before .before .before .before .before .before .args in
-    let sent = told (now (args .payload)) (args .reply) Present (c .before .before .before .found-at .ensures) (c .before .before .before .before .mac-place .ensures) (c .before .enum-told2 .given .1) in
-    rw (c .before .enum-told2 .given .1) (c .present .ensures p co t s (k .1) ∙ ap (λ (f : Found). shows (present co t (args .position) (f .mac))) sent, refl)
+    let args = c .before .before .before .before .before .before .before .before .args in
+    let sent = told (now (args .payload)) (args .reply) Present (args .packet) (args .seen .state .found) (c .before .before .before .found-at .ensures) (c .before .before .before .before .mac-place .ensures) (c .before .before .before .before .before .version-in .ensures) (c .before .enum-told2 .given .1) in
+    rw (c .before .enum-told2 .given .1) (c .present .ensures p co t s (k .2) ∙ ap (λ (f : Found). shows (present co t (args .position) (f .mac))) sent, refl)
 
 returns-3 : tie.Need-returns-3
 returns-3 c = λ p co t s k. rw (c .before .before .reply .given .1) (makes-refusal p co t _ (c .refusing .ensures), refl)
@@ -79,15 +82,16 @@ same-length c = search needs
 
 returns-4 : tie.Need-returns-4
 returns-4 c = λ p co t s k.
-    let args = c .before .before .before .before .before .before .before .before .before .before .args in
-    let sent = told (now (args .payload)) (args .reply) (args .reply) (c .before .before .before .before .before .before .found-at .ensures) (c .before .before .before .before .before .before .before .mac-place .ensures) refl in
-    let found : c .before .before .before .before .teller .result ≡ teller (args .reply) (co .found) (foundAt (now (args .payload)) (macPlace (args .reply))) = c .before .before .before .before .teller .ensures ∙ rw (s .state, sent) refl in
-    leaves-as (made (c .before .before .settled .result) p co t) (now (args .out)) _ (settles (args .reply) (args .position) co t (now (args .payload)) _ (c .before .before .before .before .before .match .keys4)) (rw found at (c .before .before .settled .ensures p co t s k))
+    let args = c .before .before .before .before .before .before .before .before .before .before .before .args in
+    let sent = told (now (args .payload)) (args .reply) (args .reply) (args .packet) (args .seen .state .found) (c .before .before .before .before .before .before .found-at .ensures) (c .before .before .before .before .before .before .before .mac-place .ensures) (c .before .before .before .before .before .before .before .before .version-in .ensures) refl in
+    let found : c .before .before .before .before .teller .result ≡ teller (args .reply) (co .found) (foundAt (now (args .payload)) (macPlace (args .reply)) (versionIn (args .reply) (args .packet) (co .found))) = c .before .before .before .before .teller .ensures ∙ rw (sent, s .state) refl in
+    leaves-as (made (c .before .before .settled .result) p co t) (now (args .out)) _ (settles (args .reply) (args .position) co t (args .packet) (now (args .payload)) _ (c .before .before .before .before .before .match .keys4)) (rw found at (c .before .before .settled .ensures p co t s k))
 
 pub replied-spec : {M : Type 1} → statement M
 replied-spec =
     tie.close
     (tie.spec
+    version-in-requires
     mac-place-requires
     found-at-requires
     enum-told

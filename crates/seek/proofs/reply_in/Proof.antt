@@ -34,6 +34,9 @@ enum-told-6 c = search needs
 address-at-requires : tie.Need-address-at-requires
 address-at-requires c κs = search needs
 
+subnet-of-requires : tie.Need-subnet-of-requires
+subnet-of-requires c κs = search needs
+
 is-assignment-requires : tie.Need-is-assignment-requires
 is-assignment-requires c κs = search needs
 
@@ -56,7 +59,7 @@ returns-5 : tie.Need-returns-5
 returns-5 c = λ co e f. rw (c .enum-told5 .given .1) refl
 
 returns-6 : tie.Need-returns-6
-returns-6 c = λ co e f. rw (c .before .before .before .before .before .before .enum-told6 .given .1) (c .in-assign .ensures ∙ rw (c .before .is-assignment .ensures, c .before .before .address-at .ensures, e, f) refl)
+returns-6 c = λ co e f. rw (c .before .before .before .before .before .before .before .enum-told6 .given .1) (c .in-assign .ensures ∙ rw (c .before .is-assignment .ensures, c .before .before .subnet-of .ensures, c .before .before .before .address-at .ensures, e, f) refl)
 
 pub reply-in-spec : {M : Type 1} → statement M
 reply-in-spec =
@@ -72,6 +75,7 @@ reply-in-spec =
     enum-told-5
     enum-told-6
     address-at-requires
+    subnet-of-requires
     is-assignment-requires
     in-assign-requires
     returns

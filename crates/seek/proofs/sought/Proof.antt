@@ -23,7 +23,7 @@ same-length c = search needs
 returns : tie.Need-returns
 returns c = λ p co t s k.
     let args = c .before .before .before .before .before .before .before .args in
-    leaves-as (made (c .before .before .replied .result) p co t) (now (args .out)) _ (ap (λ (reply : Reply). repliedAs reply (args .position) co t (now (args .payload)) (length (now (args .out)))) (sym (same-reply (c .before .before .before .before .reply-in .result) (replyIn (args .part) (args .position) co (args .header) (now (args .payload))) (c .before .before .before .before .reply-in .ensures co (s .setup) (s .state))))) (c .before .before .replied .ensures p co t s k)
+    leaves-as (made (c .before .before .replied .result) p co t) (now (args .out)) _ (ap (λ (reply : Reply). repliedAs reply (args .position) co t (args .header .packet) (now (args .payload)) (length (now (args .out)))) (sym (same-reply (c .before .before .before .before .reply-in .result) (replyIn (args .part) (args .position) co (args .header) (now (args .payload))) (c .before .before .before .before .reply-in .ensures co (s .setup) (s .state))))) (c .before .before .replied .ensures p co t s k)
 
 pub sought-spec : {M : Type 1} → statement M
 sought-spec = tie.close (tie.spec reply-in-requires replied-requires same-length returns)

@@ -31,7 +31,7 @@ returns-2 c =
     λ co t s k.
     let fit = sym (fits-seen s) ∙ sym (given .ensures) ∙ not-false (given .result) (c .before .before .before .before .if1 .left) in
     let cols = fit-columns s fit in
-    c .before .before .deciding .ensures co t (saw s fit) (k, (cols .kinds, cols .indexes, cols .macs))
+    c .before .before .deciding .ensures co t (saw s fit) (k, (cols .kinds, cols .indexes, cols .versions, cols .macs))
 
 pub decide-spec : {M : Type 1} → statement M
 decide-spec = tie.close (tie.spec fits-requires refusing-requires returns deciding-requires same-length returns-2)

@@ -43,7 +43,7 @@ returns : tie.Need-returns
 returns c =
     let args = c .before .before .before .before .before .before .before .args in
     λ co t s k. rw (c .before .before .event .given .1)
-    (c .join .ensures (now (args .received)) co t s (k .1 .0, k .1 .2), ap (λ (bytes : List ℕ). laid bytes (now (args .out))) (sym (join-silent co t _ _ _)))
+    (c .join .ensures (now (args .received)) co t s (k .1 .0, k .1 .2, k .1 .3), ap (λ (bytes : List ℕ). laid bytes (now (args .out))) (sym (join-silent co t _ _ _ _)))
 
 same-length : tie.Need-same-length
 same-length c = search needs
@@ -51,13 +51,13 @@ same-length c = search needs
 returns-2 : tie.Need-returns-2
 returns-2 c =
     let args = c .before .before .before .before .before .before .before .before .before .args in
-    λ co t s k. rw (c .before .before .before .before .enum-told .given .1) (c .before .before .turn .ensures (now (args .received)) co t s (k .0 .1, k .1 .0, k .1 .1))
+    λ co t s k. rw (c .before .before .before .before .enum-told .given .1) (c .before .before .turn .ensures (now (args .received)) co t s (k .0 .1, k .1 .0, k .1 .1, k .1 .2))
 
 same-length-2 : tie.Need-same-length-2
 same-length-2 c = search needs
 
 returns-3 : tie.Need-returns-3
-returns-3 c = λ co t s k. rw (c .before .before .before .before .enum-told2 .given .1) (c .before .before .receive .ensures co t s ((k .1 .0, k .1 .2), k .0 .0))
+returns-3 c = λ co t s k. rw (c .before .before .before .before .enum-told2 .given .1) (c .before .before .receive .ensures co t s ((k .1 .0, k .1 .2, k .1 .3), k .0 .0))
 
 returns-4 : tie.Need-returns-4
 returns-4 c =

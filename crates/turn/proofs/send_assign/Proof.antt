@@ -27,7 +27,7 @@ returns : tie.Need-returns
 returns c = λ p co t s k.
     let args = c .before .before .before .before .before .before .before .before .before .args in
     let wrote = c .before .before .before .before .write-assign in
-    does-sent (dueAssign co t (args .position)) p co t (now (args .out)) _ (assignment-small (co .setup) (args .position) (co .found .mac) (co .found .session)) (wrote .result) _ 0 Nothing _ (c .sent .ensures) (c .before .seeking .ensures) refl (edits-none t Nothing) refl (wrote .ensures) refl (λ i. assignment (s .setup i) (args .position) (s .state i .found .mac) (s .state i .found .session))
+    does-sent (dueAssign co t (args .position)) p co t (now (args .out)) _ (assignment-small (co .setup) (args .position) (co .found .version) (co .found .mac) (co .found .session)) (wrote .result) _ 0 Nothing _ (c .sent .ensures) (c .before .seeking .ensures) refl (edits-none t Nothing) refl (wrote .ensures) refl (λ i. assignment (s .setup i) (args .position) (s .state i .found .version) (s .state i .found .mac) (s .state i .found .session))
 
 pub send-assign-spec : {M : Type 1} → statement M
 send-assign-spec =

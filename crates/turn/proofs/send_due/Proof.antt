@@ -38,7 +38,7 @@ returns c = λ p co t s k.
     let args = c .before .before .before .before .before .before .before .before .before .args in
     let called = c .before .before .send-carried in
     let is = c .before .before .before .before .before .phase .given .1 in
-    does-due (called .result) p co t (now (args .out)) _ (ap (λ (x : Phase). dueIn x co t) is) (called .ensures p co t s (k .1, return-small s (sym (k .0) ∙ is)))
+    does-due (called .result) p co t (now (args .out)) _ (ap (λ (x : Phase). dueIn x co t) is) (called .ensures p co t s ((k .1, return-small s (sym (k .0) ∙ is)), k .4))
 
 same-length-2 : tie.Need-same-length-2
 same-length-2 c = search needs
@@ -48,7 +48,7 @@ returns-2 c = λ p co t s k.
     let args = c .before .before .before .before .before .before .before .before .before .args in
     let called = c .before .before .send-forward in
     let is = c .before .before .before .before .before .phase2 .given .1 in
-    does-due (called .result) p co t (now (args .out)) _ (ap (λ (x : Phase). dueIn x co t) is) (called .ensures p co t s ((k .1, forward-small s (sym (k .0) ∙ is)), k .3))
+    does-due (called .result) p co t (now (args .out)) _ (ap (λ (x : Phase). dueIn x co t) is) (called .ensures p co t s ((k .1, forward-small s (sym (k .0) ∙ is)), k .3, k .4))
 
 same-length-3 : tie.Need-same-length-3
 same-length-3 c = search needs
@@ -67,7 +67,7 @@ returns-4 : tie.Need-returns-4
 returns-4 c = λ p co t s k.
     let args = c .before .before .before .before .before .before .before .args in
     let called = c .before .before .send-own in
-    does-due (called .result) p co t (now (args .out)) _ (own-due co t (args .phase) (c .before .before .before .before .match .keys4)) (called .ensures p co t s (k .2, k .3))
+    does-due (called .result) p co t (now (args .out)) _ (own-due co t (args .phase) (c .before .before .before .before .match .keys4)) (called .ensures p co t s (k .2, k .3, k .4))
 
 pub send-due-spec : {M : Type 1} → statement M
 send-due-spec =

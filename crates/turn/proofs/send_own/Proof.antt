@@ -32,7 +32,7 @@ returns-2 : tie.Need-returns-2
 returns-2 c = λ p co t s k.
     let args = c .before .before .before .before .before .before .before .before .args in
     let called = c .before .before .send-offer in
-    does-due (called .result) p co t (now (args .out)) _ (own-offer co t (s .owed) (c .before .before .before .before .before .if1 .left) (c .before .before .before .before .next-listed .ensures ∙ next-seen s (k .0))) (called .ensures p co t s (k .1))
+    does-due (called .result) p co t (now (args .out)) _ (own-offer co t (s .owed) (c .before .before .before .before .before .if1 .left) (c .before .before .before .before .next-listed .ensures ∙ next-seen s (k .0))) (called .ensures p co t s (k .1, k .2))
 
 pub send-own-spec : {M : Type 1} → statement M
 send-own-spec =

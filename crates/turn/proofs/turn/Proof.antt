@@ -47,7 +47,7 @@ returns-3 c = λ p co t s k.
     let args = c .before .before .before .before .before .before .before .before .before .before .before .before .before .before .args in
     let called = c .before .before .send-due in
     let phase = stand-seen s (c .before .before .before .before .before .before .before .before .before .phase-of .ensures) in
-    shows-as (now (args .out)) _ (turn-sends co t (length (now (args .out))) (s .fit) phase (c .before .before .before .before .before .before .before .before .is-awaiting .ensures) (c .before .before .before .before .before .before .before .if1 .left) (nobody-seen s) (c .before .before .before .before .before .is-due .ensures) (c .before .before .before .before .if2 .left)) (called .ensures p co t s (phase, k .0, k .1, k .2))
+    shows-as (now (args .out)) _ (turn-sends co t (length (now (args .out))) (s .fit) phase (c .before .before .before .before .before .before .before .before .is-awaiting .ensures) (c .before .before .before .before .before .before .before .if1 .left) (nobody-seen s) (c .before .before .before .before .before .is-due .ensures) (c .before .before .before .before .if2 .left)) (called .ensures p co t s (phase, k .0, k .1, k .2, k .3))
 
 pub turn-spec : {M : Type 1} → statement M
 turn-spec =

@@ -1,12 +1,12 @@
--- `board::index_at` meets its contract: the element before a position of the table, and 0 elsewhere.
+-- `board::byte_at` meets its contract: the element before a position of the table, and 0 elsewhere.
 use mathlib.Core.Path.{refl, sym}
 use borrow.Author.Tests.{le-leb, lt-leb}
 use Rattle.ground.proofs.Choices.{choose-yes, choose-no}
 use Rattle.board.specs.Columns.{columnAt}
 use Rattle.board.proofs.Columns.{column-position, column-zero}
 use borrow.Author.Needs.{needs}
-use Rattle.board.proofs.index_at.Statement.{statement}
-use Rattle.board.proofs.index_at.Tie as tie
+use Rattle.board.proofs.byte_at.Statement.{statement}
+use Rattle.board.proofs.byte_at.Tie as tie
 
 sub-i : tie.Need-sub-i
 sub-i c = search needs
@@ -25,5 +25,5 @@ returns-2 c = choose-no _ _ _ _ (lt-leb _ 40 (c .if2 .left)) refl
 returns-3 : tie.Need-returns-3
 returns-3 c = column-zero _ _ (c .if1 .left)
 
-pub index-at-spec : {M : Type 1} → statement M
-index-at-spec = tie.close (tie.spec sub-i element-copy-out-result returns returns-2 returns-3)
+pub byte-at-spec : {M : Type 1} → statement M
+byte-at-spec = tie.close (tie.spec sub-i element-copy-out-result returns returns-2 returns-3)
