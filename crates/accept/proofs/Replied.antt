@@ -29,7 +29,7 @@ use Rattle.accept.proofs.Assignments.{table_assignment, assignment_exactly}
 abbrev pub Taken : Reply → Type 0
 Taken r = (told_reply r).number ≡ 0
 
--- a Node Discovery Response: type 0x_f9, 18 bytes (003, Table 58)
+-- a Node Discovery Response: type 0xF9, 18 bytes (003, Table 58)
 abbrev pub Discovery : ℕ → List ℕ → Type 0
 Discovery m payload = (m ≡ 249) × (length payload ≡ 18)
 
@@ -37,7 +37,7 @@ Discovery m payload = (m ≡ 249) × (length payload ≡ 18)
 abbrev pub AnyAck : ℕ → List ℕ → Type 0
 AnyAck m payload = (m ≡ 0) × ((length payload ≡ 17) × (byte payload 0 ≡ 6))
 
--- a Get Node ID Response: type 0x_fb, 17 bytes (003, Table 62)
+-- a Get Node ID Response: type 0xFB, 17 bytes (003, Table 62)
 abbrev pub Identity : ℕ → List ℕ → Type 0
 Identity m payload = (m ≡ 251) × (length payload ≡ 17)
 
@@ -173,7 +173,7 @@ second_ack_in_identify payload = (unexpected_in_identify 0 payload true).1 none
     none (inl (_, e)) = false≢true (sym e)
     none (inr (z, _)) = omega arith
 
--- in assign: 0x_fa whose payload is that of the address, subnet, MAC and session sent is accepted, with another it gets 8, and another type gets 7
+-- in assign: 0xFA whose payload is that of the address, subnet, MAC and session sent is accepted, with another it gets 8, and another type gets 7
 module _ (m address subnet mac session : ℕ) (payload : List ℕ) (bytes : Bytes payload) (h : mac < 256 ^ 8) (k : session < 256 ^ 8) where
   pub accepted_in_assign : Taken (heard_in_assign m (is_assignment address subnet mac session payload)) ↔ ((m ≡ 250) × (payload ≡ table_assignment address subnet mac session))
   unfolding heard_in_assign

@@ -9,15 +9,15 @@ use Rattle.accept.specs.declared.Reply.{Reply}
 use Rattle.accept.specs.declared.Reply.TheVariants.{Discovered, Present, Identified, Assigned, Refused}
 use Rattle.accept.specs.Accept.{ack_type, is_ack}
 
--- the responses to Node Discovery, Set Address and Get Node ID: 0x_f9 to 0x_fb (02, C-11)
+-- the responses to Node Discovery, Set Address and Get Node ID: 0xF9 to 0xFB (02, C-11)
 abbrev pub reply_type : ℕ → Bool
 reply_type message = leb 249 message && leb message 251
 
--- a Node Discovery Response: 0x_f9 with 18 bytes (003, Table 58)
+-- a Node Discovery Response: 0xF9 with 18 bytes (003, Table 58)
 abbrev pub is_discovery : ℕ → List ℕ → Bool
 is_discovery message payload = eqb message 249 && eqb (length payload) 18
 
--- a Get Node ID Response: 0x_fb with 17 bytes (003, Table 62)
+-- a Get Node ID Response: 0xFB with 17 bytes (003, Table 62)
 abbrev pub is_identity : ℕ → List ℕ → Bool
 is_identity message payload = eqb message 251 && eqb (length payload) 17
 

@@ -1,6 +1,8 @@
 // Which received frame a wait takes. Only the frame's message type and send method decide, and what the caller found of
 // its payload: whether it is the board's ACK, whether it is the list that was sent. In the exchange by which a board joins
 // its length and form decide too: there may be no record to compare it with.
+#![tactic(auto)]
+
 ghost use Rattle.std.specs.Prelude.{◌≡◌};
 ghost use Rattle.accept.specs.Accept.{is_ack, ack_session, told_heard, heard_after_offer, heard_after_list, heard_after_forward, heard_after_return};
 ghost use Rattle.accept.specs.Replies.{is_discovery, is_identity, is_any_ack, is_assignment, told_reply, heard_in_search, heard_in_identify, heard_in_assign};
@@ -9,7 +11,7 @@ use refusal::Refusal;
 
 // What a frame is to the wait that it comes in: an ACK, the list's echo, a request for the host, a request to be routed,
 // the response to a forward; or the reason why it is not taken.
-#[derive(Drop)]
+#[derive(Clone, Copy)]
 pub enum Heard {
     Ack,
     Echo,
@@ -21,7 +23,7 @@ pub enum Heard {
 
 // What a frame is to a wait of the exchange by which a board joins: the discovery's response, an ACK from the address at
 // stake, the ID of who has it, the echo of its assignment; or the reason why it is not taken.
-#[derive(Drop)]
+#[derive(Clone, Copy)]
 pub enum Reply {
     Discovered,
     Present,
@@ -127,7 +129,7 @@ pub fn after_return(message: u8, ack: bool) -> Heard
 pub fn in_search(message: u8, payload: &[u8]) -> Reply
     ensures { told_reply result ≡ told_reply (heard_in_search message payload.now) }
 {
-    if (message == 0x_f9) & (payload.len() == 18) {
+    if (message == 0xF9) & (payload.len() == 18) {
         Reply::Discovered
     } else {
         Reply::Refused(Refusal::UnexpectedType)
@@ -146,7 +148,7 @@ pub fn in_identify(message: u8, payload: &[u8], acked: bool) -> Reply
     ensures { told_reply result ≡ told_reply (heard_in_identify message payload.now acked) }
 {
     let ack = is_any_ack(message, payload) & !acked;
-    let identity = (message == 0x_fb) & (payload.len() == 17);
+    let identity = (message == 0xFB) & (payload.len() == 17);
     if !(ack | identity) {
         return Reply::Refused(Refusal::UnexpectedType);
     }
@@ -175,7 +177,7 @@ pub fn in_assign(message: u8, same: bool) -> Reply
     ensures { told_reply result ≡ told_reply (heard_in_assign message same) }
 {
     match message {
-        0x_fa => {
+        0xFA => {
             if same {
                 Reply::Assigned
             } else {

@@ -189,7 +189,7 @@ pub rule_passes : (t : List Node) → FewTypes t → too_many_types (kinds_of t)
 rule_passes t h = columns_rule (kinds_of t) (versions_of t) (λ old. let found = column_holds stored_version refl t 1 old in h found.0 found.1)
 
 -- where a table has a type, another has it at the same position: then it has no more types than that
-types_kept : (t u : List Node) → ((p : ℕ) → 0 < (at u p).kind → (at u p).kind ≡ (at t p).kind) → type_count (kinds_of u) ≤ type_count (kinds_of t)
+pub types_kept : (t u : List Node) → ((p : ℕ) → 0 < (at u p).kind → (at u p).kind ≡ (at t p).kind) → type_count (kinds_of u) ≤ type_count (kinds_of t)
 types_kept t u same = types_within (kinds_of t) (kinds_of u) (λ k l m. let found = column_holds kind_of refl u k m in column_has kind_of refl t found.0 k l (sym (same found.0 (omega (arith, l, found.1))) ∙ found.1))
 
 -- so where types and 1.0 boards are among those of another, the rule stays kept

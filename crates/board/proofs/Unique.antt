@@ -3,7 +3,7 @@ use mathlib.Core.Path.{◌≡◌, sym, ◌∙◌}
 use mathlib.Core.Bool.{Bool}
 use mathlib.Core.List.{List}
 use base.Fml.{Lft}
-use denote.Ref.{Bor}
+use denote.Ref.{MutBor}
 use Prim.Native.Nat.{ℕ}
 use Rattle.board.specs.declared.Node.{Node}
 use Rattle.board.proofs.blank_node.Reads as blank-node
@@ -70,7 +70,7 @@ unique_byte_at κs a s t r q p p' = p ∙ sym p'
 pub unique_with_byte : (κs a s t : _) (r q : List ℕ) → with_byte.Post κs a r s → with_byte.Post κs a q t → r ≡ q
 unique_with_byte κs a s t r q p p' = p ∙ sym p'
 
-pub unique_mark : (κs : _) (a s t : Bor (List ℕ) × (ℕ × Unit {0})) (r q : Bool) → mark.Post κs a r s → mark.Post κs a q t → (r ≡ q) × (s.0.now ≡ t.0.now)
+pub unique_mark : (κs : _) (a s t : MutBor (List ℕ) × (ℕ × Unit {0})) (r q : Bool) → mark.Post κs a r s → mark.Post κs a q t → (r ≡ q) × (s.0.now ≡ t.0.now)
 unique_mark κs a s t r q p p' = (p.0 ∙ sym p'.0, p.1 ∙ sym p'.1)
 
 pub unique_has_old : (κs a s t : _) (r q : Bool) → has-old.Post κs a r s → has-old.Post κs a q t → r ≡ q

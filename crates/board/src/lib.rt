@@ -1,5 +1,7 @@
 // The boards that the panel knows: a record for each of forty positions, and what the steps ask about them.
 // A position is a number from 1 on; position 0 and those past the table name nobody, and hold the blank record.
+#![tactic(auto)]
+
 ghost use Rattle.std.specs.Prelude.{◌≡◌, ◌∷◌, set, ◌+◌, ◌≤◌, ◌<◌, min};
 ghost use Rattle.ground.specs.Below.{one, among, first_or, up_from};
 ghost use Rattle.board.specs.Node.{none, version_of};
@@ -18,7 +20,7 @@ use ground::{least, one_if};
 // lends holds numbers only, so that every bit pattern has a meaning. `index` is how many lower listed positions are of its
 // type, `version` 1 of a 1.0 board and 2 of a later one; both are 0 where nobody is listed.
 #[repr(C)]
-#[derive(Drop)]
+#[derive(Clone, Copy)]
 pub struct Node {
     pub kind: u8,
     pub mac: u64,
@@ -31,14 +33,14 @@ pub struct Node {
 
 // The records of positions 1 to 40.
 #[repr(C)]
-#[derive(Drop)]
+#[derive(Clone, Copy)]
 pub struct Table {
     pub nodes: [Node; 40],
 }
 
 // What is looked for at a position: a listed board, a free position, a board to which the list is owed, one of a type,
 // one with a MAC.
-#[derive(Drop)]
+#[derive(Clone, Copy)]
 pub enum Wanted {
     Listed,
     Free,

@@ -1,5 +1,5 @@
 -- The cases marked * (01, "Frames and series to try") and the example of 000, Tables 4 and 6 (02, C-15), one row each: what is asked, and what the papers say.
-use Rattle.std.specs.Prelude.{ℕ, ◌+◌, List, [], ◌∷◌, ◌++◌, map, replicate, eqb}
+use Rattle.std.specs.Prelude.{ℕ, List, [], ◌∷◌, ◌++◌, map, replicate, eqb}
 use Rattle.ground.specs.Choose.{choose}
 use Rattle.ground.specs.Below.{up_from}
 use Rattle.fletcher.specs.Fletcher.{check_bytes}
@@ -75,16 +75,16 @@ miss_miss_answer_miss_miss =
 -- the table: the case, and the papers' numbers; Table 4 is the list for the board at address 16, Table 6 that for the one at address 2
 unfoldable pub rows : List (Case × List ℕ)
 rows =
-    (checks (0x02 ∷ 0x_ff ∷ 0x03 ∷ 0 ∷ 0 ∷ 0 ∷ 0x_a5 ∷ 0 ∷ 0 ∷ 0 ∷ []), 0x3_d ∷ 0x6_d ∷ []) ∷
-    (checks (replicate 10 0), 0x_aa ∷ 0x_aa ∷ []) ∷
-    (checks (0 ∷ 0 ∷ 0 ∷ 0 ∷ 0 ∷ 0x11 ∷ 0 ∷ 0 ∷ 0 ∷ 0 ∷ []), 0x44 ∷ 0x_ff ∷ []) ∷
-    (reads (0 ∷ 0 ∷ 0 ∷ 0 ∷ 0 ∷ 0x11 ∷ 0 ∷ 0 ∷ 0 ∷ 0 ∷ 0x44 ∷ 0x_ff ∷ []), 0 ∷ []) ∷
+    (checks (0x02 ∷ 0xFF ∷ 0x03 ∷ 0 ∷ 0 ∷ 0 ∷ 0xA5 ∷ 0 ∷ 0 ∷ 0 ∷ []), 0x3D ∷ 0x6D ∷ []) ∷
+    (checks (replicate 10 0), 0xAA ∷ 0xAA ∷ []) ∷
+    (checks (0 ∷ 0 ∷ 0 ∷ 0 ∷ 0 ∷ 0x11 ∷ 0 ∷ 0 ∷ 0 ∷ 0 ∷ []), 0x44 ∷ 0xFF ∷ []) ∷
+    (reads (0 ∷ 0 ∷ 0 ∷ 0 ∷ 0 ∷ 0x11 ∷ 0 ∷ 0 ∷ 0 ∷ 0 ∷ 0x44 ∷ 0xFF ∷ []), 0 ∷ []) ∷
     (reads (0 ∷ 0 ∷ 0 ∷ 0 ∷ 0 ∷ 0x11 ∷ 0 ∷ 0 ∷ 0 ∷ 0 ∷ 0x44 ∷ 0x00 ∷ []), 0 ∷ []) ∷
-    (checks (0x_ff ∷ 0 ∷ 0 ∷ 0 ∷ 0 ∷ 0x11 ∷ 0 ∷ 0 ∷ 0 ∷ 0 ∷ []), 0x44 ∷ 0x_ff ∷ []) ∷
+    (checks (0xFF ∷ 0 ∷ 0 ∷ 0 ∷ 0 ∷ 0x11 ∷ 0 ∷ 0 ∷ 0 ∷ 0 ∷ []), 0x44 ∷ 0xFF ∷ []) ∷
     (reads (replicate 11 0), 1 ∷ []) ∷
     (reads (replicate 9 0 ++ 241 ∷ replicate 243 0), 2 ∷ []) ∷
     (reads (replicate 9 0 ++ 1 ∷ 0 ∷ 0 ∷ []), 3 ∷ []) ∷
-    (reads (0x02 ∷ 0x_ff ∷ 0x03 ∷ 0 ∷ 0 ∷ 0 ∷ 0x_a5 ∷ 0 ∷ 0 ∷ 0 ∷ 0x3_d ∷ 0x6_e ∷ []), 4 ∷ []) ∷
+    (reads (0x02 ∷ 0xFF ∷ 0x03 ∷ 0 ∷ 0 ∷ 0 ∷ 0xA5 ∷ 0 ∷ 0 ∷ 0 ∷ 0x3D ∷ 0x6E ∷ []), 4 ∷ []) ∷
     (lists 1 (2 ∷ 0 ∷ 5 ∷ []), 0x01 ∷ 0x02 ∷ 0x00 ∷ 0x05 ∷ []) ∷
     (lists 1 (2 ∷ 0 ∷ 0 ∷ []), 0x01 ∷ 0x02 ∷ []) ∷
     (tells 16 3 (example_house 2), 16 ∷ 3 ∷ 1 ∷ 5 ∷ replicate 13 0 ++ 24 ∷ 24 ∷ 1 ∷ []) ∷

@@ -4,7 +4,7 @@ use Rattle.board.specs.declared.Node.{Node}
 use Rattle.change.specs.declared.Change.{Change}
 use Prim.Native.Nat.{ℕ}
 use mathlib.Core.Bool.{Bool}
-use denote.Ref.{Bor}
+use denote.Ref.{Bor, MutBor}
 use mathlib.Core.List.{List}
 use Rattle.coordinator.specs.declared.State.{State}
 use Rattle.change.proofs.edited.Reads as edited
@@ -39,7 +39,7 @@ unique_ending a s t r q p p' = p ∙ sym p'
 
 -- what is passed to keep a payload, and the same at its exit
 abbrev Keeps : Type 0
-Keeps = Bool × (Bor (List ℕ) × (Bor (List ℕ) × Unit {0}))
+Keeps = Bool × (Bor (List ℕ) × (MutBor (List ℕ) × Unit {0}))
 
 pub unique_keep : (κs : _) (a s t : Keeps) (r q : Unit {0}) → keep.Post κs a r s → keep.Post κs a q t → s.1.1.0.now ≡ t.1.1.0.now
 unique_keep κs a s t r q p p' = p ∙ sym p'

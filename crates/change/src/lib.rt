@@ -1,5 +1,7 @@
 // The change: what a step decides on. What becomes of the coordinator, one record edited, the list owed to all or not, and
 // what it answers.
+#![tactic(auto)]
+
 ghost use Rattle.std.specs.Prelude.{◌≡◌, false, ◌≤◌, length};
 ghost use Rattle.ground.specs.Choose.{choose};
 ghost use Rattle.coordinator.specs.State.{state_of, stated};
@@ -15,7 +17,7 @@ use steps::{Answer, Outcome};
 
 // What is done to one record: nothing, the list is owed to its board, the board has missed a message, it is dropped, the
 // list went out to it, it was heard, it was heard with a session, it has joined.
-#[derive(Drop)]
+#[derive(Clone, Copy)]
 pub enum Edit {
     Nothing,
     Owed,
@@ -30,7 +32,7 @@ pub enum Edit {
 // What becomes of the coordinator: it stays, it is in another phase, a board was offered the bus, joins are held, it is at
 // rest and holds no joins, it keeps the message received and is in another phase, it looks for boards without an address,
 // it keeps what was discovered.
-#[derive(Drop)]
+#[derive(Clone, Copy)]
 pub enum Move {
     Stay,
     To(Phase),
@@ -44,7 +46,7 @@ pub enum Move {
 
 // What a step decides on. `ended` says that an exchange by which a board joins is over before the coordinator moves, `owe`
 // that once the record at the position is edited every index is counted anew and the list is owed to every listed board.
-#[derive(Drop)]
+#[derive(Clone, Copy)]
 pub struct Change {
     pub ended: bool,
     pub position: usize,

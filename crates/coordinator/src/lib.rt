@@ -1,4 +1,6 @@
 // The coordinator's own record, the phases that its numbers stand for, and when it is fit together with a table.
+#![tactic(auto)]
+
 ghost use Rattle.std.specs.Prelude.{◌≡◌};
 ghost use Rattle.coordinator.specs.Phase.{phase_of, stand, stage_of, stand_of};
 ghost use Rattle.coordinator.specs.State.{state_of, stated, bare};
@@ -9,7 +11,7 @@ use board::Table;
 use setup::Setup;
 
 // The kinds of exchange in which the panel waits for a board.
-#[derive(Drop)]
+#[derive(Clone, Copy)]
 pub enum Exchange {
     Offer,
     List,
@@ -19,7 +21,7 @@ pub enum Exchange {
 
 // The parts of the exchange by which a board joins, in their order: a wait for whoever has no address, Get Node ID due to
 // the address at stake, the wait for it, the same once an ACK has come, Set Address due, the wait for it.
-#[derive(Drop)]
+#[derive(Clone, Copy)]
 pub enum Part {
     Search,
     IdentifyDue,
@@ -32,7 +34,7 @@ pub enum Part {
 // What the panel is about: nothing, a wait for a board's answer, a transmission that is due to a board, an exchange by
 // which a board joins. A forward names the board that made the request besides, and its wait whether the ACK has come; an
 // exchange by which a board joins names the position whose address is at stake, listed or not.
-#[derive(Drop)]
+#[derive(Clone, Copy)]
 pub enum Phase {
     Resting,
     Awaiting {
@@ -57,7 +59,7 @@ pub enum Phase {
 
 // A phase as a host lends it: its number, and the positions that it names.
 #[repr(C)]
-#[derive(Drop)]
+#[derive(Clone, Copy)]
 pub struct Stand {
     pub stage: u8,
     pub board: usize,
@@ -66,7 +68,7 @@ pub struct Stand {
 
 // The message that is carried: the request until its response comes, then the response.
 #[repr(C)]
-#[derive(Drop)]
+#[derive(Clone, Copy)]
 pub struct Kept {
     pub message: u8,
     pub packet: u8,
@@ -79,7 +81,7 @@ pub struct Kept {
 
 // What was discovered: type, version, MAC and session, from the discovery's response to the end of the exchange.
 #[repr(C)]
-#[derive(Drop)]
+#[derive(Clone, Copy)]
 pub struct Found {
     pub kind: u8,
     pub version: u8,
@@ -88,7 +90,7 @@ pub struct Found {
 }
 
 // The head of the message that is carried: all but its payload.
-#[derive(Drop)]
+#[derive(Clone, Copy)]
 pub struct Head {
     pub message: u8,
     pub packet: u8,
@@ -99,7 +101,7 @@ pub struct Head {
 }
 
 // What a step reads of the coordinator besides the setup, and what it may change besides the payload that is kept.
-#[derive(Drop)]
+#[derive(Clone, Copy)]
 pub struct State {
     pub last: usize,
     pub held: u8,
@@ -112,7 +114,7 @@ pub struct State {
 // The coordinator's record. `held` is 1 where joins are held, else 0; `searched` is 1 where a discovery was started since
 // the last offer, else 0.
 #[repr(C)]
-#[derive(Drop)]
+#[derive(Clone, Copy)]
 pub struct Coordinator {
     pub setup: Setup,
     pub last: usize,
@@ -146,6 +148,7 @@ fn seeking(position: usize, part: Part) -> Phase
 }
 
 // The phase that the numbers stand for; every other number is Unknown, which is not fit.
+#[tactic(auto, unfolding(crate::specs::Phase::phase_of, ground::specs::Choose::choose))]
 pub fn phase_of(stand: Stand) -> Phase
     ensures { result ≡ phase_of stand }
 {

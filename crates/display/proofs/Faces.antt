@@ -3,7 +3,7 @@ use Prim.Native.Nat.{ℕ, ◌+◌}
 use native.Mathlib.Omega.{arith}
 use mathlib.Core.Path.{◌≡◌, refl, subst}
 use mathlib.Core.List.{List, []}
-use lib.ListN.{length, get_or, take, length-drop}
+use lib.ListN.{get_or, take, length-drop}
 use lib.Seq.{take_all, get_or-take}
 use lib.Dec.{eqb}
 use borrow.Author.Tests.{ne_eqb}

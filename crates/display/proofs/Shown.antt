@@ -29,7 +29,7 @@ module _ (own most : ℕ) (p : List ℕ) where
       well : Passed (read_text_rules own most p) → Fine (behind own p)
       well ok = let w = well_formed own most p ok in (w.shown, rw (length-drop (own + 1) p) (omega (arith, w.long, w.small)))
 
-  -- each byte of it is 0x20 to 0x7_e
+  -- each byte of it is 0x20 to 0x7E
   pub shown_byte : (i : ℕ) → i < length (text_of own most p) → (32 ≤ get_or (text_of own most p) i 0) × (get_or (text_of own most p) i 0 ≤ 126)
   unfolding all_text
   shown_byte i h =

@@ -3,7 +3,7 @@ use mathlib.Core.Path.{◌≡◌, sym, ◌∙◌}
 use mathlib.Core.Bool.{Bool}
 use mathlib.Core.List.{List}
 use Prim.Native.Nat.{ℕ}
-use denote.Ref.{Bor}
+use denote.Ref.{Bor, MutBor}
 use Rattle.frame.specs.declared.Writing.{Writing}
 use Rattle.frame.specs.declared.WriteNumbers.{WriteNumbers}
 use Rattle.frame.proofs.Unique.{one_writing}
@@ -49,8 +49,8 @@ pub unique_nadrelgos_is_reply : (κs a s t : _) (r q : Bool) → face-is-reply.P
 unique_nadrelgos_is_reply κs a s t r q p p' = p ∙ sym p'
 
 -- the text and the room that are lent to a writer, and the same at its exit
-abbrev Lent : Type 0
-Lent = Bor (List ℕ) × (Bor (List ℕ) × Unit {0})
+abbrev pub Lent : Type 0
+Lent = Bor (List ℕ) × (MutBor (List ℕ) × Unit {0})
 
 -- what the writers are given, and the room's content at their exit
 abbrev Display·given : Type 0

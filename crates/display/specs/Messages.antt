@@ -66,7 +66,7 @@ abbrev pub told_diagnostics : Diagnostics → Told
 told_diagnostics (Fault kind major minor n) = gives (kind ∷ major ∷ minor ∷ n ∷ [])
 told_diagnostics (NoFault r) = refuses r
 
--- the payload of either's response: the confirmation code 0x_ac 0x06 (003, Tables 9 and 11)
+-- the payload of either's response: the confirmation code 0xAC 0x06 (003, Tables 9 and 11)
 abbrev pub reply : List ℕ
 reply = 172 ∷ 6 ∷ []
 

@@ -6,7 +6,7 @@ use Rattle.refusal.specs.Refusal.{Told, refuses, gives, ruled}
 use Rattle.refusal.specs.declared.Refusal.{Refusal}
 use Rattle.refusal.specs.declared.Refusal.TheVariants.{NoRoom, BadTextLength, BadText}
 
--- a byte that is text: "a text byte outside 0x20 to 0x7_e is refused" (02, C-22; 003, 3.1)
+-- a byte that is text: "a text byte outside 0x20 to 0x7E is refused" (02, C-22; 003, 3.1)
 abbrev pub is_text : ℕ → Bool
 is_text b = leb 32 b && leb b 126
 

@@ -1,4 +1,6 @@
 // Texts and faults for the display: the payloads of Set Display (0x04) and Set Diagnostics (0x05), read and written, and of the response to both.
+#![tactic(auto)]
+
 ghost use Rattle.std.specs.Prelude.{◌≡◌, ◌≤◌, length};
 ghost use Rattle.ground.specs.Bytes.{laid};
 ghost use Rattle.refusal.specs.Refusal.{refuses};
@@ -12,7 +14,7 @@ use frame::{WriteNumbers, Writing};
 use refusal::Refusal;
 
 // The payload of the response to both messages: the confirmation code.
-pub const REPLY: [u8; 2] = [0x_ac, 0x06];
+pub const REPLY: [u8; 2] = [0xAC, 0x06];
 
 // How long the text of a Set Display may be.
 const DISPLAY_MOST: usize = 30;
@@ -21,14 +23,14 @@ const DISPLAY_MOST: usize = 30;
 const DIAGNOSTICS_MOST: usize = 15;
 
 // What reading a Set Display finds: node type and message length, or why it is none.
-#[derive(Drop)]
+#[derive(Clone, Copy)]
 pub enum Display {
     Message { kind: u8, length: usize },
     Refused(Refusal),
 }
 
 // What reading a Set Diagnostics finds: node type, fault codes and message length, or why it is none.
-#[derive(Drop)]
+#[derive(Clone, Copy)]
 pub enum Diagnostics {
     Fault {
         kind: u8,
@@ -41,7 +43,7 @@ pub enum Diagnostics {
 
 // Either reading, for C: the refusal's number or 0, what was read, and where in the payload the text stands.
 #[repr(C)]
-#[derive(Drop)]
+#[derive(Clone, Copy)]
 pub struct TextNumbers {
     pub refusal: u8,
     pub kind: u8,
@@ -52,7 +54,7 @@ pub struct TextNumbers {
 }
 
 // Whether a payload is well formed.
-#[derive(Drop)]
+#[derive(Clone, Copy)]
 enum Form {
     Well,
     Refused(Refusal),
@@ -219,8 +221,7 @@ fn refused(refusal: Refusal) -> TextNumbers
 }
 
 // What `read_display` reads, for C.
-#[unsafe(no_mangle)]
-pub extern "C" fn nadrelgos_read_display(payload: &[u8]) -> TextNumbers
+pub fn nadrelgos_read_display(payload: &[u8]) -> TextNumbers
     ensures { result ≡ display_numbers (read_display payload.now) }
 {
     match read_display(payload) {
@@ -237,8 +238,7 @@ pub extern "C" fn nadrelgos_read_display(payload: &[u8]) -> TextNumbers
 }
 
 // What `read_diagnostics` reads, for C.
-#[unsafe(no_mangle)]
-pub extern "C" fn nadrelgos_read_diagnostics(payload: &[u8]) -> TextNumbers
+pub fn nadrelgos_read_diagnostics(payload: &[u8]) -> TextNumbers
     ensures { result ≡ diagnostics_numbers (read_diagnostics payload.now) }
 {
     match read_diagnostics(payload) {
@@ -260,16 +260,14 @@ pub extern "C" fn nadrelgos_read_diagnostics(payload: &[u8]) -> TextNumbers
 }
 
 // `write_display` for C.
-#[unsafe(no_mangle)]
-pub extern "C" fn nadrelgos_write_display(kind: u8, text: &[u8], out: &mut [u8]) -> WriteNumbers
+pub fn nadrelgos_write_display(kind: u8, text: &[u8], out: &mut [u8]) -> WriteNumbers
     ensures { (result ≡ write_numbers (write_display kind text.now (length out.old))) × (out.new ≡ laid (display_bytes kind text.now (length out.old)) out.old) }
 {
     frame::numbers_of(write_display(kind, text, out))
 }
 
 // `write_diagnostics` for C.
-#[unsafe(no_mangle)]
-pub extern "C" fn nadrelgos_write_diagnostics(
+pub fn nadrelgos_write_diagnostics(
     kind: u8,
     major: u8,
     minor: u8,
@@ -282,8 +280,7 @@ pub extern "C" fn nadrelgos_write_diagnostics(
 }
 
 // `is_reply` for C.
-#[unsafe(no_mangle)]
-pub extern "C" fn nadrelgos_is_reply(payload: &[u8]) -> bool
+pub fn nadrelgos_is_reply(payload: &[u8]) -> bool
     ensures { result ≡ is_reply payload.now }
 {
     is_reply(payload)

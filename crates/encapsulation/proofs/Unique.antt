@@ -2,7 +2,7 @@
 use Prim.Native.Nat.{ℕ}
 use mathlib.Core.Path.{◌≡◌, sym, ◌∙◌}
 use mathlib.Core.List.{List}
-use denote.Ref.{Bor}
+use denote.Ref.{Bor, MutBor}
 use Rattle.frame.specs.declared.Header.{Header}
 use Rattle.frame.specs.declared.Writing.{Writing}
 use Rattle.frame.specs.declared.WriteNumbers.{WriteNumbers}
@@ -33,8 +33,8 @@ pub unique_nadrelgos_unwrap : (κs a s t : _) (r q : UnwrapNumbers) → face-unw
 unique_nadrelgos_unwrap κs a s t r q p p' = p ∙ sym p'
 
 -- the depth, the payload and the room that a writer is given, and the same at its exit
-abbrev Lent : Type 0
-Lent = ℕ × (Bor (List ℕ) × (Bor (List ℕ) × Unit {0}))
+abbrev pub Lent : Type 0
+Lent = ℕ × (Bor (List ℕ) × (MutBor (List ℕ) × Unit {0}))
 
 pub unique_wrap : (κs : _) (a s t : Header × (List Level × Lent)) (r q : Writing) → wrap.Post κs a r s → wrap.Post κs a q t → (r ≡ q) × (s.1.1.1.1.0.now ≡ t.1.1.1.1.0.now)
 unique_wrap κs a s t r q p p' = one_writing r q p p'

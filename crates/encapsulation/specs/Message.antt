@@ -14,9 +14,9 @@ message_bytes m = m.message ∷ m.packet ∷ length m.payload ∷ m.payload
 
 -- the message type of Network Encapsulation (003, 6.10)
 abbrev pub encapsulation : ℕ
-encapsulation = 0x7_e
+encapsulation = 0x7E
 
--- a message that holds another; one of any other type, 0x_fe among them, is plain (003, 6.10; 02, C-21)
+-- a message that holds another; one of any other type, 0xFE among them, is plain (003, 6.10; 02, C-21)
 abbrev pub is_encapsulation : Message → Bool
 is_encapsulation m = eqb m.message encapsulation
 

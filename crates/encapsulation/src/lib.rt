@@ -1,4 +1,6 @@
-// Messages inside messages: Network Encapsulation (0x7_e), read and written, up to four levels deep.
+// Messages inside messages: Network Encapsulation (0x7E), read and written, up to four levels deep.
+#![tactic(auto)]
+
 ghost use Rattle.std.specs.Prelude.{◌≡◌, [], ◌+◌, ◌*◌, ◌≤◌, ◌<◌, length, take};
 ghost use Rattle.ground.specs.Bytes.{laid};
 ghost use Rattle.frame.specs.Frame.{told_written, write_numbers};
@@ -11,14 +13,14 @@ use frame::{Header, Reading, WriteNumbers, Writing};
 use refusal::Refusal;
 
 // The message type of Network Encapsulation.
-pub const ENCAPSULATION: u8 = 0x7_e;
+pub const ENCAPSULATION: u8 = 0x7E;
 
 // How many levels there may be.
 pub const MOST: usize = 4;
 
 // One level: its code and operands, and the packet number of the message that holds them.
 #[repr(C)]
-#[derive(Drop)]
+#[derive(Clone, Copy)]
 pub struct Level {
     pub code: u8,
     pub operand1: u8,
@@ -28,7 +30,7 @@ pub struct Level {
 }
 
 // What is inside a frame: how deep the plain message lies, its type and packet number and its payload's length, or why there is none.
-#[derive(Drop)]
+#[derive(Clone, Copy)]
 pub enum Inside {
     Plain {
         depth: usize,
@@ -40,7 +42,7 @@ pub enum Inside {
 }
 
 // The same with its levels, from the outermost on; they are blank from the depth on, and all of them on a refusal.
-#[derive(Drop)]
+#[derive(Clone, Copy)]
 pub struct Unwrapped {
     pub inside: Inside,
     pub levels: [Level; 4],
@@ -48,7 +50,7 @@ pub struct Unwrapped {
 
 // Four levels, for C, which hands no array over by value.
 #[repr(C)]
-#[derive(Drop)]
+#[derive(Clone, Copy)]
 pub struct Levels {
     pub levels: [Level; 4],
 }
@@ -56,7 +58,7 @@ pub struct Levels {
 // An unwrapping, for C: the refusal's number or 0, how deep the plain message lies, its type and packet number, the levels, and where in the
 // received bytes its payload stands.
 #[repr(C)]
-#[derive(Drop)]
+#[derive(Clone, Copy)]
 pub struct UnwrapNumbers {
     pub refusal: u8,
     pub depth: u8,
@@ -227,7 +229,7 @@ fn head_of(level: Level, message: u8, packet: u8, n: u8) -> [u8; 7]
 }
 
 // What a message in levels begins with: the bytes before the plain payload, and the outermost message's type and packet number.
-#[derive(Drop)]
+#[derive(Clone, Copy)]
 struct Front {
     bytes: [u8; 28],
     message: u8,
@@ -304,8 +306,7 @@ pub fn wrap(
 }
 
 // What `unwrap` finds, for C.
-#[unsafe(no_mangle)]
-pub extern "C" fn nadrelgos_unwrap(ours: u8, received: &[u8]) -> UnwrapNumbers
+pub fn nadrelgos_unwrap(ours: u8, received: &[u8]) -> UnwrapNumbers
     ensures { result ≡ unwrap_numbers (unwrapping ours received.now) }
 {
     let unwrapped = unwrap(ours, received);
@@ -340,8 +341,7 @@ pub extern "C" fn nadrelgos_unwrap(ours: u8, received: &[u8]) -> UnwrapNumbers
 }
 
 // `wrap` for C.
-#[unsafe(no_mangle)]
-pub extern "C" fn nadrelgos_wrap(
+pub fn nadrelgos_wrap(
     header: Header,
     levels: Levels,
     depth: usize,

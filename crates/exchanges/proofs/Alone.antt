@@ -34,13 +34,13 @@ use Rattle.exchanges.proofs.Going.{busy}
 use Rattle.exchanges.proofs.Rest.{over_rests, joined_rests, runs_no_more}
 
 -- a part that waits is a wait of the exchange to the observer
-waits_in : (part : Part) → is_waiting part ≡ true → is_seek (wait_of part) ≡ true
-waits_in Search n = refl
-waits_in IdentifyDue n = absurd (false≢true n)
-waits_in Identify n = refl
-waits_in Present n = refl
-waits_in AssignDue n = absurd (false≢true n)
-waits_in Assign n = refl
+waiting_seeks : (part : Part) → is_waiting part ≡ true → is_seek (wait_of part) ≡ true
+waiting_seeks Search n = refl
+waiting_seeks IdentifyDue n = absurd (false≢true n)
+waiting_seeks Identify n = refl
+waiting_seeks Present n = refl
+waiting_seeks AssignDue n = absurd (false≢true n)
+waiting_seeks Assign n = refl
 
 module _ (c₀ c : Coordinator) (t : List Node) (p q : ℕ) (f : Found) (part : Part) (k : Stands c₀ part c t p q f) (b : List ℕ) (room : ℕ) where
   -- a step is of the exchange in its part
@@ -62,7 +62,7 @@ module _ (c₀ c : Coordinator) (t : List Node) (p q : ℕ) (f : Found) (part : 
 
   -- a frame or a quiet in a wait
   answered_of : (a : After) → is_waiting part ≡ true → ((leb 6 (waits_in a.says) && leb (waits_in a.says) 7) || (is_seek (wait_of part) && true)) ≡ true
-  answered_of a n = or_right (leb 6 (waits_in a.says) && leb (waits_in a.says) 7) (is_seek (wait_of part) && true) (both (is_seek (wait_of part)) true (waits_in part n) refl)
+  answered_of a n = or_right (leb 6 (waits_in a.says) && leb (waits_in a.says) 7) (is_seek (wait_of part) && true) (both (is_seek (wait_of part)) true (waiting_seeks part n) refl)
 
   -- whatever comes in a part
   step_of_lem : (e : Event) → is_accepted (step_of c t e b room).says ≡ true → Of e (step_of c t e b room)

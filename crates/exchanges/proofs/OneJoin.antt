@@ -74,7 +74,7 @@ one_step (joined r) i a o = absurd (none_of _ _ (joined_rests r) i o)
 reaching : {c₀ : Coordinator} {x : Course} {w : World} (js : List Input) → Reach c₀ x w → goes_on ours w x js ≡ true → Reach c₀ (course ours w x js) (after ours w js)
 unfolding goes_on course after choose
 reaching [] r g = r
-reaching {c₀} {x} {w} (i ∷ js) r g = go (λ y s h. reaching js s h) (is_accepted (ours.step w i).says) refl g
+reaching {c₀ = c₀} {x = x} {w = w} (i ∷ js) r g = go (λ y s h. reaching {x = y} {w = left (ours.step w i)} js s h) (is_accepted (ours.step w i).says) refl g
   where
     go : ((y : Course) → Reach c₀ y (left (ours.step w i)) → goes_on ours (left (ours.step w i)) y js ≡ true → Reach c₀ (course ours (left (ours.step w i)) y js) (after ours (left (ours.step w i)) js)) → (b : Bool) → is_accepted (ours.step w i).says ≡ b → choose b (is_of x i (ours.step w i) && goes_on ours (left (ours.step w i)) (gone x i (ours.step w i)) js) (goes_on ours (left (ours.step w i)) x js) ≡ true → Reach c₀ (course ours (left (ours.step w i)) (choose b (gone x i (ours.step w i)) x) js) (after ours (left (ours.step w i)) js)
     go rest true e h = rest (gone x i (ours.step w i)) (one_step r i e (and_left (is_of x i (ours.step w i)) (goes_on ours (left (ours.step w i)) (gone x i (ours.step w i)) js) h)) (and_right (is_of x i (ours.step w i)) (goes_on ours (left (ours.step w i)) (gone x i (ours.step w i)) js) h)

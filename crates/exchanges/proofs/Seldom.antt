@@ -14,7 +14,6 @@ use Rattle.coordinator.proofs.Fitting.{fits_searched}
 use Rattle.steps.specs.declared.Event.{Event}
 use Rattle.steps.specs.declared.Event.TheVariants.{Join, Turn, Frame, Quiet, Discover}
 use Rattle.steps.specs.After.{After}
-use Rattle.steps.specs.Discover.{searched}
 use Rattle.steps.specs.Step.{step_of}
 use Rattle.series.specs.Series.{Input, World, left, is_accepted, offered_to, offers, after}
 use Rattle.series.specs.Exchange.{is_discover, discoveries, peopled, Seldom}

@@ -1,5 +1,7 @@
 // Finds the first good frame in a stretch of line bytes, trying no more starts than the budget allows. A frame whose subnet is
 // neither ours nor 0 is passed over as if it were not good.
+#![tactic(auto)]
+
 ghost use Rattle.std.specs.Prelude.{◌≡◌, ◌+◌, ◌-◌, ◌*◌, ◌/◌, ◌≤◌, ◌<◌, max, length, take, drop};
 ghost use Rattle.ground.specs.Below.{first_or, up_from};
 ghost use Rattle.fletcher.specs.Fletcher.{is_good};
@@ -10,7 +12,7 @@ ghost use Rattle.finder.specs.Trail.{has_room, can_begin, sums_to, apart, NotedA
 use fletcher::{Run, Sums};
 
 // What looking finds, and how many starts were tried: the found one counted, all of them, or the whole budget.
-#[derive(Drop)]
+#[derive(Clone, Copy)]
 pub enum Finding {
     Found {
         start: usize,
@@ -23,7 +25,7 @@ pub enum Finding {
 
 // The same as plain numbers, for C: 1 for Found, 2 for Nothing, 3 for Spent. Start and length are 0 where nothing was found.
 #[repr(C)]
-#[derive(Drop)]
+#[derive(Clone, Copy)]
 pub struct FindNumbers {
     pub number: u8,
     pub start: usize,
@@ -245,8 +247,7 @@ pub fn find(ours: u8, bytes: &[u8], budget: usize) -> Finding
 }
 
 // What `find` finds, for C.
-#[unsafe(no_mangle)]
-pub extern "C" fn nadrelgos_find(ours: u8, bytes: &[u8], budget: usize) -> FindNumbers
+pub fn nadrelgos_find(ours: u8, bytes: &[u8], budget: usize) -> FindNumbers
     ensures { result ≡ find_numbers (finding ours bytes.now budget) }
 {
     match find(ours, bytes, budget) {

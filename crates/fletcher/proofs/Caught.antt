@@ -9,7 +9,7 @@ use mathlib.Core.List.{List}
 use lib.ListN.{length, get_or, get_or-eq_default}
 use Rattle.ground.specs.Below.{some}
 use Rattle.fletcher.specs.declared.Sums.{Sums}
-use Rattle.fletcher.specs.Fletcher.{sums, is_good}
+use Rattle.fletcher.specs.Fletcher.{is_good}
 use Rattle.fletcher.specs.Caught.{Same, GoodPair, OnlyZeroAnd255, OneByteCaught, Caught, neighbouring, NeighboursCaught, shares_factor, moved}
 use Rattle.fletcher.proofs.Laws.{alike_good, good_first}
 use Rattle.fletcher.proofs.Factors.{unshared}

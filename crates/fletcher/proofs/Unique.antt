@@ -3,7 +3,6 @@ use mathlib.Core.Path.{◌≡◌, sym, ◌∙◌}
 use mathlib.Core.Bool.{Bool}
 use mathlib.Core.List.{List}
 use Prim.Native.Nat.{ℕ}
-use base.Fml.{Lft}
 use Rattle.fletcher.specs.declared.Sums.{Sums}
 use Rattle.fletcher.proofs.seed.Reads as seed
 use Rattle.fletcher.proofs.sums_over.Reads as sums-over

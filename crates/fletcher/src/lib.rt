@@ -1,17 +1,19 @@
 // The checksum of a CT-485 frame: two running sums over its bytes.
+#![tactic(auto)]
+
 ghost use Rattle.std.specs.Prelude.{◌≡◌, ◌-◌, ◌*◌, ◌/◌, ◌%◌, ◌<◌, ◌≤◌, length};
 ghost use Rattle.fletcher.specs.Fletcher.{seed, sums_from, sums, is_good, check_bytes};
 ghost use Rattle.fletcher.specs.Joined.{run_of, joined, started, sums_of, closing, is_good_run};
 
 // The two sums. Each is below 255 wherever this crate made them.
-#[derive(Drop)]
+#[derive(Clone, Copy)]
 pub struct Sums {
     pub first: u32,
     pub second: u32,
 }
 
 // A run of bytes: its sums by itself, from 0 and 0, of which the remainders need not be taken, and its length.
-#[derive(Drop)]
+#[derive(Clone, Copy)]
 pub struct Run {
     pub first: u32,
     pub second: u32,

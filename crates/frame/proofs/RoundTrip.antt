@@ -1,5 +1,5 @@
 -- Demand 2: what is written reads back with the frame's own subnet, and with no other but where it is 0 (02, C-14); what is read and written again is the same frame, but for a check byte 0 that becomes 255.
-use Prim.Native.Nat.{ℕ, ◌+◌, ◌-◌, ◌≤◌, ◌<◌}
+use Prim.Native.Nat.{ℕ, ◌+◌, ◌≤◌, ◌<◌}
 use native.Mathlib.Omega.{arith}
 use mathlib.Core.Path.{◌≡◌, refl, sym, ap, ◌∙◌}
 use mathlib.Core.Bool.{true, false}

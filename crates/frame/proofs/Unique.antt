@@ -4,7 +4,7 @@ use mathlib.Core.Bool.{Bool}
 use mathlib.Core.List.{List}
 use Prim.Native.Nat.{ℕ}
 use lib.ListN.{length}
-use denote.Ref.{Bor}
+use denote.Ref.{Bor, MutBor}
 use Rattle.ground.specs.Bytes.{laid}
 use Rattle.refusal.specs.Refusal.{Told}
 use Rattle.frame.specs.declared.Header.{Header}
@@ -42,7 +42,7 @@ unique_numbers_of a s t r q p p' = p ∙ sym p'
 
 -- the payload and the room that are lent to a writer, and the same at its exit
 abbrev Lent : Type 0
-Lent = Bor (List ℕ) × (Bor (List ℕ) × Unit {0})
+Lent = Bor (List ℕ) × (MutBor (List ℕ) × Unit {0})
 
 -- two writings that say one thing and lay one content are one
 pub one_writing : {told : Told} {content o u : List ℕ} (r q : Writing) → (told_written r ≡ told) × (o ≡ content) → (told_written q ≡ told) × (u ≡ content) → (r ≡ q) × (o ≡ u)

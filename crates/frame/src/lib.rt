@@ -1,4 +1,6 @@
 // The CT-485 frame: its fields, the reader and the writer.
+#![tactic(auto)]
+
 ghost use Rattle.std.specs.Prelude.{◌≡◌, ◌++◌, ◌∷◌, [], ◌-◌, ◌≤◌, length};
 ghost use Rattle.ground.specs.Bytes.{laid};
 ghost use Rattle.frame.specs.Frame.{fields, header_of, begun, takes_subnet, told, reading, payload_of, told_written, writing, written_bytes, write_numbers};
@@ -9,7 +11,7 @@ use refusal::Refusal;
 
 // The nine bytes before the payload length, in the order of the wire.
 #[repr(C)]
-#[derive(Drop)]
+#[derive(Clone, Copy)]
 pub struct Header {
     pub destination: u8,
     pub source: u8,
@@ -24,7 +26,7 @@ pub struct Header {
 
 // A ready header: the nine fields and the sums over them, each below 255 where `prepare` made it.
 #[repr(C)]
-#[derive(Drop)]
+#[derive(Clone, Copy)]
 pub struct Ready {
     pub header: Header,
     pub first: u8,
@@ -32,14 +34,14 @@ pub struct Ready {
 }
 
 // What reading finds: the header and the payload's length, or why there is no frame.
-#[derive(Drop)]
+#[derive(Clone, Copy)]
 pub enum Reading {
     Frame(Header, usize),
     Refused(Refusal),
 }
 
 // What writing did: the count of bytes written, or why none was.
-#[derive(Drop)]
+#[derive(Clone, Copy)]
 pub enum Writing {
     Written(usize),
     Refused(Refusal),
@@ -47,7 +49,7 @@ pub enum Writing {
 
 // A writing, for C: the refusal's number or 0, and the count of bytes written.
 #[repr(C)]
-#[derive(Drop)]
+#[derive(Clone, Copy)]
 pub struct WriteNumbers {
     pub refusal: u8,
     pub written: usize,

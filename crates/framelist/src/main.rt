@@ -1,40 +1,44 @@
 // Lists the frames in the first 4,096 bytes of standard input, a line each: start, destination, source, message type,
 // payload length. Frames whose subnet is neither SUBNET nor 0 are passed over.
+#![tactic(auto)]
+
 use finder::Finding;
 use frame::{Header, Reading};
-use libc::{STDIN_FILENO, STDOUT_FILENO};
+use std::io;
+use std::io::{BufWriter, Write};
 
 // The subnet of the system whose frames are listed.
 const SUBNET: u8 = 3;
 
-fn print_number(n: u64) {
-    io::print_decimal(STDOUT_FILENO, n);
+fn print_number<W: Write>(to: &mut W, n: u64) -> io::Result<()> {
+    console::write_decimal(to, n)
 }
 
-fn print_field(b: u8) {
-    io::write_all(STDOUT_FILENO, b" ");
-    print_number(b as u64);
+fn print_field<W: Write>(to: &mut W, b: u8) -> io::Result<()> {
+    to.write_all(b" ")?;
+    print_number(to, b as u64)
 }
 
-fn print_line(start: usize, header: Header, n: usize) {
-    print_number(start as u64);
-    print_field(header.destination);
-    print_field(header.source);
-    print_field(header.message);
-    io::write_all(STDOUT_FILENO, b" ");
-    print_number(n as u64);
-    io::write_all(STDOUT_FILENO, b"\n");
+fn print_line<W: Write>(to: &mut W, start: usize, header: Header, n: usize) -> io::Result<()> {
+    print_number(to, start as u64)?;
+    print_field(to, header.destination)?;
+    print_field(to, header.source)?;
+    print_field(to, header.message)?;
+    to.write_all(b" ")?;
+    print_number(to, n as u64)?;
+    to.write_all(b"\n")
 }
 
 // Prints the frame that these bytes are, which stand at `start` of the input.
-fn print_frame(start: usize, bytes: &[u8]) {
+fn print_frame<W: Write>(to: &mut W, start: usize, bytes: &[u8]) -> io::Result<()> {
     if let Reading::Frame(header, n) = frame::read(SUBNET, bytes) {
-        print_line(start, header, n);
+        print_line(to, start, header, n)?;
     }
+    Ok(())
 }
 
 // Goes on after each frame found, until no start holds one.
-fn list_frames(bytes: &[u8]) {
+fn list_frames<W: Write>(to: &mut W, bytes: &[u8]) -> io::Result<()> {
     let mut at: usize = 0;
     while at < bytes.len() {
         match finder::find(SUBNET, &bytes[at..], bytes.len()) {
@@ -45,17 +49,20 @@ fn list_frames(bytes: &[u8]) {
             } => {
                 let from = at + start;
                 let end = from + length;
-                print_frame(from, &bytes[from..end]);
+                print_frame(to, from, &bytes[from..end])?;
                 at = end;
             }
-            Finding::Nothing(_) => return,
-            Finding::Spent(_) => return,
+            Finding::Nothing(_) => return Ok(()),
+            Finding::Spent(_) => return Ok(()),
         }
     }
+    Ok(())
 }
 
-fn main() {
-    let mut bytes = io::buffer();
-    let n = io::read_full(STDIN_FILENO, &mut bytes);
-    list_frames(&bytes[..n]);
+fn main(rt: HostRuntime) -> io::Result<()> {
+    let mut bytes = [0u8; 4096];
+    let n = console::read_full(&mut rt.reader(), &mut bytes)?;
+    let mut to = BufWriter::new(rt.alloc(), io::writer(&rt))?;
+    list_frames(&mut to, &bytes[..n])?;
+    to.flush()
 }

@@ -1,5 +1,7 @@
 // What every crate above stands on. Its weight is in specs/ (tests below a bound, choices, bytes laid over a buffer) and
 // in proofs/ (the laws by which loops and choices are proved); the code is the three functions that need no other home.
+#![tactic(auto)]
+
 ghost use Rattle.std.specs.Prelude.{◌≡◌, ◌≤◌, min, length};
 ghost use Rattle.std.proofs.Math.Seq.{paste};
 ghost use Rattle.ground.specs.Below.{one};

@@ -1,4 +1,6 @@
 // The step join: a board that has finished the exchange by which boards join is listed, or has its address again.
+#![tactic(auto)]
+
 ghost use Rattle.std.specs.Prelude.{◌≡◌};
 ghost use Rattle.board.specs.Node.{is_kind};
 ghost use Rattle.look.specs.Seen.{OfBoards};

@@ -1,5 +1,5 @@
 -- What setup and the changes of single records make of lent records, which they edit where they stand, is what the definitions say: of any other count than forty nothing is changed.
-use Prim.Native.Nat.{ℕ, ◌-◌, min}
+use Prim.Native.Nat.{ℕ, min}
 use mathlib.Core.Path.{◌≡◌, refl, sym, ap, ◌∙◌}
 use mathlib.Core.Bool.{Bool, true, false}
 use mathlib.Core.List.{List, [], ◌∷◌, map}

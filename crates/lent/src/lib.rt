@@ -1,5 +1,7 @@
-// The covered part of the lent forms besides the steps: which single records a host amends by itself, told how many there are, and the numbers that
-// stand at the C face.
+// The part of the lent forms, besides the steps, that sees numbers alone: which single records a host amends by itself, told how many there are, and
+// the numbers that stand at the C face.
+#![tactic(auto)]
+
 ghost use Rattle.std.specs.Prelude.{◌≡◌, ◌-◌};
 ghost use Rattle.steps.specs.After.{told, exchange_number, seek_number};
 ghost use Rattle.change.specs.declared.Edit.TheVariants.{Owed, Cleared, Joined};
@@ -16,7 +18,7 @@ const RECORDS: usize = 40;
 
 // Which records a host amends by itself, from an index up to another, what is done to each, how many there are to number
 // where that moves indexes, and the packed answer.
-#[derive(Drop)]
+#[derive(Clone, Copy)]
 pub struct Amendment {
     pub from: usize,
     pub to: usize,

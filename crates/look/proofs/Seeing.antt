@@ -14,7 +14,7 @@ use Rattle.board.specs.declared.Node.{Node}
 use Rattle.board.specs.Table.{at, listed_at}
 use Rattle.board.specs.declared.Wanted.TheVariants.{Owed}
 use Rattle.board.specs.Wanted.{lowest_of, highest_listed}
-use Rattle.board.specs.Columns.{kind_of, kinds_of, stored_index, stored_indexes, stored_version, versions_of, macs_of, typed, column_at, forty}
+use Rattle.board.specs.Columns.{kind_of, kinds_of, stored_index, stored_indexes, stored_version, versions_of, macs_of, typed, column_at}
 use Rattle.board.specs.Types.{too_many_types}
 use Rattle.board.proofs.LowestWanted.{highest_listed_case, highest_within, owed_to_top, some_highest}
 use Rattle.board.proofs.SameKinds.{SameKinds, kinds_listed}

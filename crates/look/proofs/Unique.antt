@@ -3,7 +3,7 @@ use Prim.Native.Nat.{ℕ}
 use mathlib.Core.Path.{◌≡◌, sym, ◌∙◌}
 use mathlib.Core.Bool.{Bool}
 use mathlib.Core.List.{List}
-use denote.Ref.{Bor}
+use denote.Ref.{MutBor}
 use Rattle.board.specs.declared.Node.{Node}
 use Rattle.look.specs.declared.Digest.{Digest}
 use Rattle.look.proofs.Digests.{same_digested}
@@ -15,7 +15,7 @@ unique_fits κs a s t r q p p' = p ∙ sym p'
 
 -- what is passed to `note`, and the same at its exit
 abbrev Notes : Type 0
-Notes = Digest × (ℕ × (ℕ × (Node × (Bor (List ℕ) × (Bor (List ℕ) × (Bor (List ℕ) × (Bor (List ℕ) × Unit {0})))))))
+Notes = Digest × (ℕ × (ℕ × (Node × (MutBor (List ℕ) × (MutBor (List ℕ) × (MutBor (List ℕ) × (MutBor (List ℕ) × Unit {0})))))))
 
 pub unique_note : (κs : _) (a s t : Notes) (r q : Digest) → note.Post κs a r s → note.Post κs a q t
     → (r ≡ q) × ((s.1.1.1.1.0.now ≡ t.1.1.1.1.0.now) × ((s.1.1.1.1.1.0.now ≡ t.1.1.1.1.1.0.now) × ((s.1.1.1.1.1.1.0.now ≡ t.1.1.1.1.1.1.0.now) × (s.1.1.1.1.1.1.1.0.now ≡ t.1.1.1.1.1.1.1.0.now))))

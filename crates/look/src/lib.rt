@@ -1,5 +1,7 @@
 // The look: what a step sees of the coordinator and of the records, and whether the two are fit together. By this alone
 // it decides what to do; the records themselves it does not read.
+#![tactic(auto)]
+
 ghost use Rattle.std.specs.Prelude.{◌≡◌, ◌<◌, not};
 ghost use Rattle.board.specs.Columns.{typed, forty};
 ghost use Rattle.board.specs.Types.{too_many_types};
@@ -14,7 +16,7 @@ use setup::Setup;
 
 // What is seen besides the columns: the setup and the state of the coordinator, whether each record is fit by itself, and
 // the highest listed position and the lowest to which the list is owed, 0 for none.
-#[derive(Drop)]
+#[derive(Clone, Copy)]
 pub struct Seen {
     pub setup: Setup,
     pub state: State,
@@ -25,7 +27,7 @@ pub struct Seen {
 
 // What was noted of records: whether each is fit by itself, the highest listed position, and the lowest to which the list
 // is owed, 0 for none.
-#[derive(Drop)]
+#[derive(Clone, Copy)]
 pub struct Digest {
     pub ok: bool,
     pub top: usize,

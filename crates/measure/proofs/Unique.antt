@@ -3,7 +3,7 @@ use mathlib.Core.Path.{◌≡◌, sym, ◌∙◌}
 use mathlib.Core.Bool.{Bool}
 use mathlib.Core.List.{List}
 use Prim.Native.Nat.{ℕ}
-use denote.Ref.{Bor}
+use denote.Ref.{Bor, MutBor}
 use Rattle.frame.specs.declared.Header.{Header}
 use Rattle.frame.specs.declared.Ready.{Ready}
 use Rattle.measure.specs.declared.ReadNumbers.{ReadNumbers}
@@ -25,7 +25,7 @@ unique_measure_prepare κs a s t r q p p' = p ∙ sym p'
 
 -- the payload and the room that are lent to a writer, and the same at its exit
 abbrev Lent : Type 0
-Lent = Bor (List ℕ) × (Bor (List ℕ) × Unit {0})
+Lent = Bor (List ℕ) × (MutBor (List ℕ) × Unit {0})
 
 pub unique_measure_write : (κs : _) (a s t : Header × Lent) (r q : WriteNumbers) → write.Post κs a r s → write.Post κs a q t → (r ≡ q) × (s.1.1.0.now ≡ t.1.1.0.now)
 unique_measure_write κs a s t r q p p' = (p.0 ∙ sym p'.0, p.1 ∙ sym p'.1)

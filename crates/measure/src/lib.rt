@@ -1,4 +1,6 @@
 // What the benchmark calls: the proved functions for C, each with its answer as plain numbers.
+#![tactic(auto)]
+
 ghost use Rattle.std.specs.Prelude.{◌≡◌, length};
 ghost use Rattle.ground.specs.Bytes.{laid};
 ghost use Rattle.fletcher.specs.Fletcher.{is_good};
@@ -10,7 +12,7 @@ use frame::{Header, Reading, Ready, WriteNumbers};
 
 // A reading: the refusal's number or 0, and the header and the payload's length, all 0 on a refusal.
 #[repr(C)]
-#[derive(Drop)]
+#[derive(Clone, Copy)]
 pub struct ReadNumbers {
     pub refusal: u8,
     pub header: Header,

@@ -2,7 +2,7 @@
 use Prim.Native.Nat.{ℕ}
 use mathlib.Core.Path.{◌≡◌, sym, ◌∙◌}
 use mathlib.Core.List.{List}
-use denote.Ref.{Bor}
+use denote.Ref.{Bor, MutBor}
 use Rattle.refusal.specs.Refusal.{Told}
 use Rattle.frame.specs.declared.Header.{Header}
 use Rattle.frame.specs.declared.Writing.{Writing}
@@ -22,16 +22,16 @@ outcome r q p p' = (same_written r q (p.0 ∙ sym p'.0), p.1 ∙ sym p'.1)
 
 -- what each was passed, and the same at its exit
 abbrev To : Type 0
-To = Setup × (ℕ × (ℕ × (Header × (Bor (List ℕ) × (Bor (List ℕ) × Unit {0})))))
+To = Setup × (ℕ × (ℕ × (Header × (Bor (List ℕ) × (MutBor (List ℕ) × Unit {0})))))
 
 abbrev Numbers : Type 0
-Numbers = Setup × (ℕ × (ℕ × (ℕ × (ℕ × (Bor (List ℕ) × Unit {0})))))
+Numbers = Setup × (ℕ × (ℕ × (ℕ × (ℕ × (MutBor (List ℕ) × Unit {0})))))
 
 abbrev Listed : Type 0
-Listed = Setup × (Bor (List ℕ) × (Bor (List ℕ) × (ℕ × (ℕ × (ℕ × (ℕ × (Bor (List ℕ) × Unit {0})))))))
+Listed = Setup × (Bor (List ℕ) × (Bor (List ℕ) × (ℕ × (ℕ × (ℕ × (ℕ × (MutBor (List ℕ) × Unit {0})))))))
 
 abbrev Identified : Type 0
-Identified = Setup × (ℕ × (ℕ × (ℕ × (Bor (List ℕ) × Unit {0}))))
+Identified = Setup × (ℕ × (ℕ × (ℕ × (MutBor (List ℕ) × Unit {0}))))
 
 pub unique_write_to : (κs : _) (a s t : To) (r q : Writing) → write-to.Post κs a r s → write-to.Post κs a q t → (r ≡ q) × (s.1.1.1.1.1.0.now ≡ t.1.1.1.1.1.0.now)
 unique_write_to κs a s t r q p p' = outcome r q p p'
@@ -42,7 +42,7 @@ unique_write_signed κs a s t r q p p' = outcome r q p p'
 pub unique_write_list : (κs : _) (a s t : Listed) (r q : Writing) → write-list.Post κs a r s → write-list.Post κs a q t → (r ≡ q) × (s.1.1.1.1.1.1.1.0.now ≡ t.1.1.1.1.1.1.1.0.now)
 unique_write_list κs a s t r q p p' = outcome r q p p'
 
-pub unique_write_discovery : (κs : _) (a s t : Bor (List ℕ) × Unit {0}) (r q : Writing) → write-discovery.Post κs a r s → write-discovery.Post κs a q t → (r ≡ q) × (s.0.now ≡ t.0.now)
+pub unique_write_discovery : (κs : _) (a s t : MutBor (List ℕ) × Unit {0}) (r q : Writing) → write-discovery.Post κs a r s → write-discovery.Post κs a q t → (r ≡ q) × (s.0.now ≡ t.0.now)
 unique_write_discovery κs a s t r q p p' = outcome r q p p'
 
 pub unique_write_identify : (κs : _) (a s t : Identified) (r q : Writing) → write-identify.Post κs a r s → write-identify.Post κs a q t → (r ≡ q) × (s.1.1.1.1.0.now ≡ t.1.1.1.1.0.now)

@@ -92,11 +92,11 @@ discovery_header = broadcast_header 121 32
 abbrev pub every_kind : List ℕ
 every_kind = 0 ∷ []
 
--- Get Node ID is message 0x7_b, packet number 0, without a payload; it goes to the address at stake, in the subnet of what was discovered (003, Table 61; 02, C-15)
+-- Get Node ID is message 0x7B, packet number 0, without a payload; it goes to the address at stake, in the subnet of what was discovered (003, Table 61; 02, C-15)
 abbrev pub identify_header : Setup → ℕ → ℕ → ℕ → Header
 identify_header s position version index = own_header s position version index 123 0
 
--- Set Address is message 0x7_a, packet number 0 (003, Table 59)
+-- Set Address is message 0x7A, packet number 0 (003, Table 59)
 abbrev pub assign_header : Header
 assign_header = broadcast_header 122 0
 

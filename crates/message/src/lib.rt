@@ -1,5 +1,7 @@
 // The frames that the panel itself writes: the offer and the ACK, the node list, what it carries from board to board, and
 // those of the exchange by which a board joins.
+#![tactic(auto)]
+
 ghost use Rattle.std.specs.Prelude.{◌≡◌, []};
 ghost use Rattle.board.specs.Columns.{typed};
 ghost use Rattle.nodelist.specs.Condensed.{condensed};
@@ -179,7 +181,7 @@ pub fn write_identify(
     ensures { Sends (identify_header setup position version index) [] result out.old out.new }
 {
     let payload = [0u8; 1];
-    write_own(setup, position, version, index, 0x7_b, 0, &payload[..0], out)
+    write_own(setup, position, version, index, 0x7B, 0, &payload[..0], out)
 }
 
 // The address of a position, the subnet of a version, then the MAC and the session of whom it is for, and 1.
@@ -223,5 +225,5 @@ pub fn write_assign(
     ensures { Sends assign_header (assignment setup position version mac session) result out.old out.new }
 {
     let payload = assignment_bytes(setup, position, version, mac, session);
-    write_broadcast(0x7_a, 0, &payload, out)
+    write_broadcast(0x7A, 0, &payload, out)
 }

@@ -32,7 +32,7 @@ lasting s step m (suc n) j l p = go (ℕ_discrete m (suc n)) (λ (h : m ≤ n). 
     go (no ne) r = let before : get_or (s n) j 0 ≡ get_or (s m) j 0 = r (omega (arith, l, ne)) in step n j (omega (arith, p, before)) ∙ before
 
 -- before the first pass all fifteen are open, and no type stands
-abbrev all_free : List ℕ
+abbrev pub all_free : List ℕ
 all_free = replicate 15 0
 
 free_at : (i : ℕ) → get_or all_free i 0 ≡ 0
@@ -137,7 +137,7 @@ none_besides kinds bytes m few none k p listed = go (among k bytes) refl
 
 -- the second pass: every other type into the lowest open byte
 module _ (kinds bytes : List ℕ) (start : Built kinds bytes) where
-  filled_built : (i : ℕ) → Built kinds (filled_to bytes kinds i)
+  pub filled_built : (i : ℕ) → Built kinds (filled_to bytes kinds i)
   unfolding filled_to
   filled_built zero = start
   filled_built (suc i) = placed_built (filled_to bytes kinds i) (open_byte (filled_to bytes kinds i)) (get_or kinds i 0) (open_free (filled_to bytes kinds i) (filled_built i).size) (filled_built i) (λ p. member_stands kinds i (get_or kinds i 0) p refl) _ (λ e. e)

@@ -5,7 +5,7 @@ use mathlib.Core.Bool.{Bool}
 use Prim.Native.Nat.{ℕ}
 use lib.ListN.{get_or}
 use base.Fml.{Lft}
-use denote.Ref.{Bor}
+use denote.Ref.{Bor, MutBor}
 use Rattle.refusal.specs.Refusal.{Told}
 use Rattle.refusal.proofs.Numbers.{same_refused, gives_not}
 use Rattle.nodelist.specs.List.{told}
@@ -27,7 +27,7 @@ pub unique_list_length : (κs a s t : _) (r q : ℕ) → list_length.Post κs a 
 unique_list_length κs a s t r q p p' = p ∙ sym p'
 
 abbrev Writes : Type 0
-Writes = ℕ × (Bor (List ℕ) × (ℕ × (Bor (List ℕ) × Unit {0})))
+Writes = ℕ × (Bor (List ℕ) × (ℕ × (MutBor (List ℕ) × Unit {0})))
 
 abbrev out : Writes → List ℕ
 out s = s.1.1.1.0.now

@@ -1,4 +1,6 @@
 // The node list: the bytes that tell every board which types stand at which positions, written, measured and compared.
+#![tactic(auto)]
+
 ghost use Rattle.std.specs.Prelude.{◌≡◌, [], ◌∷◌, ◌-◌, eqb, length, get_or, drop};
 ghost use Rattle.ground.specs.Below.{first_or, up_from};
 ghost use Rattle.board.specs.Columns.{typed};
@@ -9,7 +11,7 @@ ghost use Rattle.nodelist.specs.List.{length_to, written_to, output_to, told, sa
 use refusal::Refusal;
 
 // What writing the list answers: the count of bytes written, or why nothing was.
-#[derive(Drop)]
+#[derive(Clone, Copy)]
 pub enum Listing {
     Written(usize),
     Refused(Refusal),

@@ -1,7 +1,3 @@
-pub mod Locals
-pub mod Nodes
-pub mod Shared
 pub mod Looked
-pub mod Zeros
 pub mod Unique
 pub mod Bridge

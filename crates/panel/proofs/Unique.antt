@@ -1,5 +1,5 @@
 -- The contracts of the lent forms, as they stand in the source, leave one outcome for each input: one answer, one coordinator, one list of records, one content of the output.
--- A function that is lent a record has no reading of its contract to cite, so each theorem is over its generated clauses: it is refused once the source says anything else.
+-- For functions that are lent a record each theorem is over the generated clauses themselves: it is refused once the source says anything else.
 use mathlib.Core.Path.{◌≡◌, sym, ap, ◌∙◌}
 use mathlib.Core.List.{List}
 use Prim.Native.Nat.{ℕ}
@@ -11,7 +11,7 @@ use prog.Memory.{Memory}
 use prog.Routine.{Routine}
 use types.Logic.{Logic}
 use contract.Monad.{Fun, fact}
-use denote.Ref.{Bor}
+use denote.Ref.{Bor, MutBor}
 use Rattle.ground.specs.Bytes.{laid}
 use Rattle.board.specs.declared.Node.{Node}
 use Rattle.board.specs.declared.Table.{Table}
@@ -39,15 +39,15 @@ use Rattle.panel.proofs.lend_setup.Reads as lend-setup
 use Rattle.panel.proofs.lend_step.Reads as lend-step
 
 -- the same coordinator and records, beside the answers r and q
-abbrev Same : {A : Type 0} (r q : A) (c d : Coordinator) (ys zs : List Node) → Type 0
+abbrev pub Same : {A : Type 0} (r q : A) (c d : Coordinator) (ys zs : List Node) → Type 0
 Same r q c d ys zs = (r ≡ q) × ((c ≡ d) × (ys ≡ zs))
 
-same_facing : (n m : ℕ) (c d : Coordinator) (ys zs : List Node) → facing n c ys ≡ facing m d zs → Same n m c d ys zs
+pub same_facing : (n m : ℕ) (c d : Coordinator) (ys zs : List Node) → facing n c ys ≡ facing m d zs → Same n m c d ys zs
 same_facing n m c d ys zs e = (ap (λ (f : Faced). f.answer) e, (ap (λ (f : Faced). f.coordinator) e, ap (λ (f : Faced). f.nodes) e))
 
 -- what setup is passed, by Rattle and by C
 abbrev pub Setups : Type 0
-Setups = Bor Coordinator × (Bor (List Node) × (Bor (List ℕ) × (ℕ × (ℕ × (ℕ × (ℕ × Unit {0}))))))
+Setups = MutBor Coordinator × (MutBor (List Node) × (Bor (List ℕ) × (ℕ × (ℕ × (ℕ × (ℕ × Unit {0}))))))
 
 -- what a setup on these arguments leaves, by the definition
 abbrev pub set_up : Setups → After
@@ -59,7 +59,7 @@ SaysSetup a r s = in_place r s.0.now s.1.0.now ≡ shows (set_up a)
 
 -- what a step is passed
 abbrev pub Steps : Type 0
-Steps = Bor Coordinator × (Bor (List Node) × (Event × (Bor (List ℕ) × (Bor (List ℕ) × Unit {0}))))
+Steps = MutBor Coordinator × (MutBor (List Node) × (Event × (Bor (List ℕ) × (MutBor (List ℕ) × Unit {0}))))
 
 abbrev pub output : Steps → List ℕ
 output a = a.1.1.1.1.0.now
@@ -69,23 +69,23 @@ abbrev pub stepped : Steps → After
 stepped a = step_of a.0.now a.1.0.now a.1.1.0 a.1.1.1.0.now (length (output a))
 
 -- what C passes to a step: a number and what a join is made of, for the event
-abbrev Numbered : Type 0
-Numbered = Bor Coordinator × (Bor (List Node) × (ℕ × (ℕ × (ℕ × (ℕ × (ℕ × (Bor (List ℕ) × (Bor (List ℕ) × Unit {0}))))))))
+abbrev pub Numbered : Type 0
+Numbered = MutBor Coordinator × (MutBor (List Node) × (ℕ × (ℕ × (ℕ × (ℕ × (ℕ × (Bor (List ℕ) × (MutBor (List ℕ) × Unit {0}))))))))
 
-abbrev numbered_output : Numbered → List ℕ
+abbrev pub numbered_output : Numbered → List ℕ
 numbered_output a = a.1.1.1.1.1.1.1.1.0.now
 
 abbrev numbered : Numbered → After
 numbered a = step_of a.0.now a.1.0.now (event_of a.1.1.0 a.1.1.1.0 a.1.1.1.1.0 a.1.1.1.1.1.0 a.1.1.1.1.1.1.0) a.1.1.1.1.1.1.1.0.now (length (numbered_output a))
 
 -- what is passed to a change of one record: the position, and for a board that is listed its type, MAC, session and version
-abbrev Listings : Type 0
-Listings = Bor (List Node) × (ℕ × (ℕ × (ℕ × (ℕ × (ℕ × Unit {0})))))
+abbrev pub Listings : Type 0
+Listings = MutBor (List Node) × (ℕ × (ℕ × (ℕ × (ℕ × (ℕ × Unit {0})))))
 
-abbrev Positions : Type 0
-Positions = Bor (List Node) × (ℕ × Unit {0})
+abbrev pub Positions : Type 0
+Positions = MutBor (List Node) × (ℕ × Unit {0})
 
-same_amends : (r q : ℕ) (ys zs : List Node) (does : Amends) → amends r ys ≡ does → amends q zs ≡ does → (r ≡ q) × (ys ≡ zs)
+pub same_amends : (r q : ℕ) (ys zs : List Node) (does : Amends) → amends r ys ≡ does → amends q zs ≡ does → (r ≡ q) × (ys ≡ zs)
 same_amends r q ys zs does p p' = (ap (λ (x : Amends). x.answer) (p ∙ sym p'), ap (λ (x : Amends). x.nodes) (p ∙ sym p'))
 
 -- what a step says of its answer r and of what it was passed, at exit
@@ -142,7 +142,7 @@ pub unique_lend_setup : (κs : _) (a s t : _) (r q : Stepped) → lend-setup.Pos
 unique_lend_setup κs a s t r q p p' = same_shown r q (p ∙ sym p')
 
 abbrev Values : Type 0
-Values = Coordinator × (Table × (Event × (Bor (List ℕ) × (Bor (List ℕ) × Unit {0}))))
+Values = Coordinator × (Table × (Event × (Bor (List ℕ) × (MutBor (List ℕ) × Unit {0}))))
 
 pub unique_lend_step : (κs : _) (a s t : Values) (r q : Stepped) → lend-step.Post κs a r s → lend-step.Post κs a q t → (r ≡ q) × (s.1.1.1.1.0.now ≡ t.1.1.1.1.0.now)
 unique_lend_step κs a s t r q p p' = (same_shown r q (p.0 ∙ sym p'.0), p.1 ∙ sym p'.1)

@@ -1,6 +1,8 @@
 // The lent forms: the host's coordinator and records, updated where they stand, for Rattle and for C. A step looks, has it decided, and
-// changes; for the others a covered function that sees no record says which are edited, and how, and how many are numbered then. Records
+// changes; for the others a function that sees no record says which are edited, and how, and how many are numbered then. Records
 // that are not forty get 22, and stay as they were.
+#![tactic(auto)]
+
 ghost use Rattle.std.specs.Prelude.{◌≡◌, length};
 ghost use Rattle.ground.specs.Bytes.{laid};
 ghost use Rattle.steps.specs.After.{shows, shown};
@@ -75,8 +77,7 @@ pub fn step(
 }
 
 // A board listed at a position, in place, and all indexes counted anew.
-#[unsafe(no_mangle)]
-pub extern "C" fn nadrelgos_list(
+pub fn nadrelgos_list(
     nodes: &mut [Node],
     position: usize,
     kind: u8,
@@ -94,8 +95,7 @@ pub extern "C" fn nadrelgos_list(
 }
 
 // A position cleared, in place, and all indexes counted anew.
-#[unsafe(no_mangle)]
-pub extern "C" fn nadrelgos_clear(nodes: &mut [Node], position: usize) -> u64
+pub fn nadrelgos_clear(nodes: &mut [Node], position: usize) -> u64
     ensures { amends result nodes.new ≡ amend_of (length nodes.old) nodes.old (clearing nodes.old position) }
 {
     let n = nodes.len();
@@ -106,8 +106,7 @@ pub extern "C" fn nadrelgos_clear(nodes: &mut [Node], position: usize) -> u64
 }
 
 // The list marked as owed to the board at a position, in place. No index changes, and none is counted.
-#[unsafe(no_mangle)]
-pub extern "C" fn nadrelgos_mark(nodes: &mut [Node], position: usize) -> u64
+pub fn nadrelgos_mark(nodes: &mut [Node], position: usize) -> u64
     ensures { amends result nodes.new ≡ amend_of (length nodes.old) nodes.old (marking nodes.old position) }
 {
     let n = nodes.len();
@@ -161,8 +160,7 @@ pub fn lend_step(
 }
 
 // Setup for C: the outcome packed.
-#[unsafe(no_mangle)]
-pub extern "C" fn nadrelgos_setup(
+pub fn nadrelgos_setup(
     coordinator: &mut Coordinator,
     nodes: &mut [Node],
     addresses: &[u8],
@@ -186,8 +184,7 @@ pub extern "C" fn nadrelgos_setup(
 }
 
 // A step for C: the event by its number, the outcome packed.
-#[unsafe(no_mangle)]
-pub extern "C" fn nadrelgos_step(
+pub fn nadrelgos_step(
     coordinator: &mut Coordinator,
     nodes: &mut [Node],
     number: u8,

@@ -2,7 +2,7 @@
 use encapsulation::Level;
 
 // A level read off a line, where the next word begins, and whether it is one.
-#[derive(Drop)]
+#[derive(Clone, Copy)]
 struct Placed {
     level: Level,
     next: usize,
@@ -30,7 +30,7 @@ fn level_at(line: &[u8], at: usize) -> Placed {
 }
 
 // Where the word behind some levels begins, and whether all of them are there.
-#[derive(Drop)]
+#[derive(Clone, Copy)]
 pub(crate) struct Behind {
     pub(crate) next: usize,
     pub(crate) ok: bool,

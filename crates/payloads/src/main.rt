@@ -1,5 +1,7 @@
 // Plays payloads and messages inside messages that are read and written, and shared data that is stored and served, a line at a time, and
 // answers each line (docs/PAYLOADS.md has the lines).
+#![tactic(auto)]
+
 mod answer;
 mod images;
 mod levels;
@@ -9,34 +11,35 @@ use display::{Diagnostics, Display};
 use encapsulation::Inside;
 use frame::Writing;
 use images::Sizes;
-use libc::STDIN_FILENO;
 use order::{Order, Written};
+use std::io;
+use std::io::{BufWriter, Write};
 
 // read-display, answered.
-fn read_display(payload: &[u8]) {
+fn read_display<W: Write>(to: &mut W, payload: &[u8]) -> io::Result<()> {
     match display::read_display(payload) {
         Display::Message { kind, length: _ } => {
-            answer::display(kind, display::display_text(payload))
+            answer::display(to, kind, display::display_text(payload))
         }
-        Display::Refused(refusal) => answer::refused(refusal),
+        Display::Refused(refusal) => answer::refused(to, refusal),
     }
 }
 
 // read-diagnostics, answered.
-fn read_diagnostics(payload: &[u8]) {
+fn read_diagnostics<W: Write>(to: &mut W, payload: &[u8]) -> io::Result<()> {
     match display::read_diagnostics(payload) {
         Diagnostics::Fault {
             kind,
             major,
             minor,
             length: _,
-        } => answer::diagnostics(kind, major, minor, display::diagnostics_text(payload)),
-        Diagnostics::Refused(refusal) => answer::refused(refusal),
+        } => answer::diagnostics(to, kind, major, minor, display::diagnostics_text(payload)),
+        Diagnostics::Refused(refusal) => answer::refused(to, refusal),
     }
 }
 
 // unwrap, answered.
-fn unwrap(subnet: u8, frame: &[u8]) {
+fn unwrap<W: Write>(to: &mut W, subnet: u8, frame: &[u8]) -> io::Result<()> {
     let found = encapsulation::unwrap(subnet, frame);
     let inside = found.inside;
     let levels = found.levels;
@@ -47,10 +50,10 @@ fn unwrap(subnet: u8, frame: &[u8]) {
             packet,
             length: _,
         } => {
-            answer::plain(depth, levels, message, packet);
-            answer::payload(encapsulation::inner_payload(subnet, frame));
+            answer::plain(to, depth, levels, message, packet)?;
+            answer::payload(to, encapsulation::inner_payload(subnet, frame))
         }
-        Inside::Refused(refusal) => answer::refused(refusal),
+        Inside::Refused(refusal) => answer::refused(to, refusal),
     }
 }
 
@@ -70,52 +73,68 @@ fn writing_of(what: Written, line: &[u8], bytes: &[u8], out: &mut [u8]) -> Writi
 }
 
 // The same, answered.
-fn write(what: Written, line: &[u8], bytes: &[u8], out: &mut [u8]) {
+fn write<W: Write>(
+    to: &mut W,
+    what: Written,
+    line: &[u8],
+    bytes: &[u8],
+    out: &mut [u8],
+) -> io::Result<()> {
     let writing = writing_of(what, line, bytes, out);
-    answer::written(writing, out);
+    answer::written(to, writing, out)
 }
 
 // Plays one line and answers it.
-fn play_line(
+fn play_line<W: Write>(
+    to: &mut W,
     line: &[u8],
     number: u64,
     network: &mut [u8],
     factory: &mut [u8],
     sizes: Sizes,
-) -> Sizes {
+) -> io::Result<Sizes> {
     let mut bytes = [0u8; 1024];
     let order = order::read_line(line, &mut bytes);
     match order {
         Order::Pass => {}
         Order::ReadDisplay { count } => {
             let n = script::within(count, &bytes);
-            read_display(&bytes[..n]);
+            read_display(to, &bytes[..n])?;
         }
         Order::ReadDiagnostics { count } => {
             let n = script::within(count, &bytes);
-            read_diagnostics(&bytes[..n]);
+            read_diagnostics(to, &bytes[..n])?;
         }
         Order::Unwrap { subnet, count } => {
             let n = script::within(count, &bytes);
-            unwrap(subnet, &bytes[..n]);
+            unwrap(to, subnet, &bytes[..n])?;
         }
         Order::Write { room, count, what } => {
             let n = script::within(count, &bytes);
             let mut out = [0u8; 1024];
             let m = script::within(room, &out);
-            write(what, line, &bytes[..n], &mut out[..m]);
+            write(to, what, line, &bytes[..n], &mut out[..m])?;
         }
         Order::Shared { asked, count } => {
             let n = script::within(count, &bytes);
-            return images::play(asked, line, number, &bytes[..n], network, factory, sizes);
+            return images::play(
+                to,
+                asked,
+                line,
+                number,
+                &bytes[..n],
+                network,
+                factory,
+                sizes,
+            );
         }
-        Order::Bad => answer::bad(number),
+        Order::Bad => answer::bad(to, number)?,
     }
-    sizes
+    Ok(sizes)
 }
 
 // Plays the lines from first to last, on images that begin blank.
-fn play(lines: &[u8]) {
+fn play<W: Write>(to: &mut W, lines: &[u8]) -> io::Result<()> {
     let mut network = images::blank();
     let mut factory = images::blank();
     let mut sizes = Sizes {
@@ -128,10 +147,11 @@ fn play(lines: &[u8]) {
         let rest = &lines[at..];
         let n = script::before(rest, b'\n');
         number += 1;
-        sizes = play_line(&rest[..n], number, &mut network, &mut factory, sizes);
+        sizes = play_line(to, &rest[..n], number, &mut network, &mut factory, sizes)?;
         let end = at + n;
         at = end + 1;
     }
+    Ok(())
 }
 
 // Room for the longest input.
@@ -139,8 +159,10 @@ fn blank_input() -> [u8; 1048576] {
     [0u8; 1048576]
 }
 
-fn main() {
+fn main(rt: HostRuntime) -> io::Result<()> {
     let mut input = blank_input();
-    let n = io::read_full(STDIN_FILENO, &mut input);
-    play(&input[..n]);
+    let n = console::read_full(&mut rt.reader(), &mut input)?;
+    let mut to = BufWriter::new(rt.alloc(), io::writer(&rt))?;
+    play(&mut to, &input[..n])?;
+    to.flush()
 }

@@ -3,7 +3,7 @@ use crate::images::Asked;
 use frame::Header;
 
 // What a line asks for; the payload, the text, the frame or the record stands in the bytes beside it, as many as it says.
-#[derive(Drop)]
+#[derive(Clone, Copy)]
 pub(crate) enum Order {
     Pass,
     ReadDisplay {
@@ -29,7 +29,7 @@ pub(crate) enum Order {
 }
 
 // What is to be written. The levels of what is wrapped stand in the line, from a place on: an enum that holds an array is refused a proof.
-#[derive(Drop)]
+#[derive(Clone, Copy)]
 pub(crate) enum Written {
     Display {
         kind: u8,
@@ -125,7 +125,7 @@ fn unwrap(line: &[u8], bytes: &mut [u8]) -> Order {
 }
 
 // The header of a line that wraps, still without type and packet number, where the next word begins, and whether its fields are bytes.
-#[derive(Drop)]
+#[derive(Clone, Copy)]
 struct Routed {
     header: Header,
     next: usize,

@@ -1,11 +1,4 @@
-pub mod Walking
-pub mod Again
 pub mod Edits
 pub mod Numbers
-pub mod Locals
-pub mod Parts
-pub mod Payload
 pub mod Places
-pub mod Spans
-pub mod Turns
 pub mod Unique

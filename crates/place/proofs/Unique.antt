@@ -1,5 +1,5 @@
 -- The contracts, as they stand in the source, leave one result for each input, and one content of what is lent to be written.
--- A function that is lent a record has no reading of its contract to cite, so each theorem is over its generated clauses: it is refused once the source says anything else.
+-- For functions that are lent a record each theorem is over the generated clauses themselves: it is refused once the source says anything else.
 use Prim.Native.Nat.{ℕ, min}
 use mathlib.Core.Path.{◌≡◌, sym, ◌∙◌}
 use mathlib.Core.Bool.{true}
@@ -12,7 +12,7 @@ use prog.Memory.{Memory}
 use prog.Routine.{Routine}
 use types.Logic.{Logic}
 use contract.Monad.{Fun, fact, fact_i, fact_use}
-use denote.Ref.{Bor}
+use denote.Ref.{Bor, MutBor}
 use Rattle.board.specs.declared.Node.{Node}
 use Rattle.board.specs.Table.{at}
 use Rattle.coordinator.specs.declared.State.{State}
@@ -40,11 +40,14 @@ two_facts 𝓤 P Q R f = fact_use 𝓤 P (fst∗ 𝓤 (fact 𝓤 P) (fact 𝓤 Q
 abbrev Positions : Type 0
 Positions = Bor (List Node) × (ℕ × Unit {0})
 
+abbrev Numbers : Type 0
+Numbers = MutBor (List Node) × (ℕ × Unit {0})
+
 abbrev Amends : Type 0
-Amends = Bor (List Node) × (ℕ × (ℕ × (Edit × Unit {0})))
+Amends = MutBor (List Node) × (ℕ × (ℕ × (Edit × Unit {0})))
 
 abbrev Looks : Type 0
-Looks = Bor Coordinator × (Bor (List Node) × (Bor (List ℕ) × (Bor (List ℕ) × (Bor (List ℕ) × (Bor (List ℕ) × Unit {0})))))
+Looks = Bor Coordinator × (Bor (List Node) × (MutBor (List ℕ) × (MutBor (List ℕ) × (MutBor (List ℕ) × (MutBor (List ℕ) × Unit {0})))))
 
 -- what looking says of its answer and of the columns at exit
 abbrev SaysSeen : Looks → Seen → Looks → Type 0
@@ -58,7 +61,7 @@ same_seen : (r q : Seen) → r.setup ≡ q.setup → r.state ≡ q.state → dg 
 same_seen r q e f g i = record { setup = e i; state = f i; ok = (g i).ok; top = (g i).top; owed = (g i).owed }
 
 abbrev Makes : Type 0
-Makes = Bor Coordinator × (Bor (List Node) × (State × (Change × (Bor (List ℕ) × Unit {0}))))
+Makes = MutBor Coordinator × (MutBor (List Node) × (State × (Change × (Bor (List ℕ) × Unit {0}))))
 
 -- what making a change says of coordinator and records at exit
 abbrev SaysMade : Makes → Makes → Type 0
@@ -77,7 +80,7 @@ module _ {M : Type 1} {𝓤 : Ura M} (𝓛 : Logic 𝓤) (at_mem : Memory → SP
   unique_amend κs a r q s t =
       two_facts 𝓤 (s.0.now ≡ edited_between a.0.now a.1.0 a.1.1.0 a.1.1.1.0) (t.0.now ≡ edited_between a.0.now a.1.0 a.1.1.0 a.1.1.1.0) _ (λ p p'. p ∙ sym p')
 
-  pub unique_number : (κs : Lft × Unit {0}) (a : Positions) (r q : Unit {0}) (s t : Positions)
+  pub unique_number : (κs : Lft × Unit {0}) (a : Numbers) (r q : Unit {0}) (s t : Numbers)
       → ent 𝓤 (sep 𝓤 ((number.clauses 𝓛 at_mem run κs a).ensures tt r s) ((number.clauses 𝓛 at_mem run κs a).ensures tt q t)) (fact 𝓤 (s.0.now ≡ t.0.now))
   unique_number κs a r q s t =
       two_facts 𝓤 (s.0.now ≡ numbered_first a.0.now (min (length a.0.now) a.1.0)) (t.0.now ≡ numbered_first a.0.now (min (length a.0.now) a.1.0)) _ (λ p p'. p ∙ sym p')

@@ -1,4 +1,6 @@
 // A lent coordinator and lent records where they stand: what is seen of them, and a change made of them.
+#![tactic(auto)]
+
 ghost use Rattle.std.specs.Prelude.{◌≡◌, true, ◌+◌, ◌-◌, min, length};
 ghost use Rattle.ground.specs.Choose.{choose};
 ghost use Rattle.board.specs.Table.{at};

@@ -1,4 +1,6 @@
 // Quiet: the wait is over and no frame has ended it.
+#![tactic(auto)]
+
 ghost use Rattle.std.specs.Prelude.{◌≡◌};
 ghost use Rattle.ground.specs.Choose.{choose};
 ghost use Rattle.board.specs.Table.{at};

@@ -64,7 +64,7 @@ use Rattle.steps.specs.declared.Answer.TheVariants.{Refuse}
 use Rattle.steps.specs.After.{After, Shown, shows, leaving, refused, accepted, rests, transmits, told}
 use Rattle.steps.specs.Hear.{hear}
 use Rattle.steps.specs.Seek.{source_in}
-use Rattle.steps.specs.Receive.{payload, awaits, answers_forward, is_stray, heard_in, hear_ack, kept_of, acking, routed, acked, taken_as, taken_in, hears_old, read_by, read_in, receive_in, receive_of}
+use Rattle.steps.specs.Receive.{payload, awaits, answers_forward, is_stray, heard_in, hear_ack, kept_of, acking, routed, acked, taken_as, taken_in, hears_old, read_in, receive_in, receive_of}
 use Rattle.steps.proofs.Writes.{shown_as, leaves_ack_written}
 use Rattle.change.specs.declared.Edit.TheVariants.{Nothing, Heard, Renewed}
 use Rattle.change.specs.declared.Move.{Move}
@@ -73,7 +73,7 @@ use Rattle.change.specs.declared.Change.{Change}
 use Rattle.change.specs.Change.{kept_bytes, moved, changing, applied}
 use Rattle.change.proofs.Keeping.{keeps_whole}
 use Rattle.change.proofs.Making.{makes_edit, makes_owed, makes_refusal, made, Shows, shows_as}
-use Rattle.receive.specs.Parts.{Brings, hearing, is_acknowledged, waited, listened}
+use Rattle.receive.specs.Parts.{Brings, hearing, is_acknowledged, waited, listened, hears_from, read_from}
 
 -- a refusal leaves the output as it was
 pub shows_refused : (b o : List ℕ) (c : Coordinator) (t : List Node) (q : Refusal) {a : After} {x : Change} → a ≡ refused c t q → x ≡ changing Stay 0 Nothing false (Refuse q) 0 0 0 → Shows a (applied x b c t) o o
@@ -237,7 +237,7 @@ pub node_named : (c : Coordinator) (t : List Node) {w : Phase} {n : Node} {board
 node_named c t h known e = e ∙ ap (at t) (sym (waited_board c.stand (sym h ∙ known)))
 
 -- what was seen of the phase, the record of the board that is waited for and what was discovered tell whether a 1.0 board may answer
-hears_seen : (c : Coordinator) (t : List Node) (n : Node) → n ≡ at t c.stand.board → (w : Phase) → phase_of c.stand ≡ w → hears_old w (λ board. n) c.found ≡ hears_old w (at t) c.found
+hears_seen : (c : Coordinator) (t : List Node) (n : Node) → n ≡ at t c.stand.board → (w : Phase) → phase_of c.stand ≡ w → hears_from w n c.found ≡ hears_old w c t
 hears_seen c t n e Resting h = refl
 hears_seen c t n e (Awaiting board x requester a) h = ap (λ (m : Node). is_old m.version) (node_named c t (sym h) refl e)
 hears_seen c t n e (ForwardDue board requester) h = refl
@@ -246,7 +246,7 @@ hears_seen c t n e (Seeking position part) h = refl
 hears_seen c t n e Unknown h = refl
 
 -- and so in which subnet bytes are read
-pub read_seen : {seen : Seen} {c : Coordinator} {t : List Node} → Saw seen c t → {n : Node} → n ≡ at t c.stand.board → (b : List ℕ) → read_by (hears_old (phase_of seen.state.stand) (λ board. n) seen.state.found) seen.setup.subnet b ≡ read_in (phase_of c.stand) c t b
+pub read_seen : {seen : Seen} {c : Coordinator} {t : List Node} → Saw seen c t → {n : Node} → n ≡ at t c.stand.board → (b : List ℕ) → read_from seen n b ≡ read_in (phase_of c.stand) c t b
 read_seen {c = c} {t = t} s {n} e b = rw (s.setup, s.state, hears_seen c t n e (phase_of c.stand) refl) refl
 
 -- bytes received, of a coordinator and records that are fit

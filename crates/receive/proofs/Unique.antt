@@ -2,7 +2,7 @@
 use Prim.Native.Nat.{ℕ}
 use mathlib.Core.Path.{◌≡◌, sym, ◌∙◌}
 use mathlib.Core.List.{List}
-use denote.Ref.{Bor}
+use denote.Ref.{Bor, MutBor}
 use Rattle.board.specs.declared.Node.{Node}
 use Rattle.board.specs.Table.{at}
 use Rattle.coordinator.specs.declared.Coordinator.{Coordinator}
@@ -14,7 +14,7 @@ use Rattle.receive.proofs.receive.Reads as receive
 
 -- what it was passed, and the same at its exit
 abbrev Args : Type 0
-Args = Seen × (Node × (Bor (List ℕ) × (Bor (List ℕ) × (Bor (List ℕ) × (Bor (List ℕ) × (Bor (List ℕ) × Unit {0}))))))
+Args = Seen × (Node × (Bor (List ℕ) × (Bor (List ℕ) × (Bor (List ℕ) × (Bor (List ℕ) × (MutBor (List ℕ) × Unit {0}))))))
 
 abbrev received : Args → List ℕ
 received a = a.1.1.1.1.1.0.now

@@ -1,24 +1,30 @@
 -- The parts of the step: what its functions leave.
-use Rattle.std.specs.Prelude.{ℕ, ◌≡◌, Bool, true, false, not, List, [], ◌∷◌, eqb, length}
+use Rattle.std.specs.Prelude.{ℕ, ◌≡◌, Bool, true, false, ◌&&◌, not, List, [], ◌∷◌, eqb, length}
 use Rattle.ground.specs.Choose.{choose}
 use Rattle.refusal.specs.Refusal.{ruled}
 use Rattle.refusal.specs.declared.Refusal.TheVariants.{NotForUs, NotDiscovering, NotAwaited}
 use Rattle.frame.specs.declared.Header.{Header}
+use Rattle.frame.specs.Frame.{header_of}
 use Rattle.board.specs.declared.Node.{Node}
+use Rattle.board.specs.Node.{is_old}
 use Rattle.board.specs.Table.{at}
 use Rattle.board.specs.Columns.{kinds_of, versions_of}
 use Rattle.accept.specs.declared.Heard.{Heard}
 use Rattle.accept.specs.declared.Heard.TheVariants.{Ack, Echo, Deliver, Route, Answer as Response, Refused}
+use Rattle.setup.specs.Setup.{old_subnet}
 use Rattle.setup.specs.Fitness.{FitTable}
 use Rattle.coordinator.specs.declared.Coordinator.{Coordinator}
 use Rattle.coordinator.specs.declared.Exchange.{Exchange}
+use Rattle.coordinator.specs.declared.Found.{Found}
 use Rattle.coordinator.specs.declared.Phase.{Phase}
+use Rattle.coordinator.specs.declared.Phase.TheVariants.{Resting, Awaiting, ForwardDue, ReturnDue, Seeking, Unknown}
+use Rattle.coordinator.specs.Phase.{phase_of}
 use Rattle.coordinator.specs.State.{head_of}
 use Rattle.look.specs.declared.Seen.{Seen}
 use Rattle.look.specs.Seen.{Saw, OfTypes}
 use Rattle.steps.specs.declared.Answer.{Answer}
 use Rattle.steps.specs.After.{After, refused, told, shows}
-use Rattle.steps.specs.Receive.{awaits, is_stray, heard_in, hear_ack, kept_of, acking, acked, taken_as, taken_in}
+use Rattle.steps.specs.Receive.{awaits, is_stray, heard_in, hear_ack, kept_of, acking, acked, taken_as, taken_in, seeks_old}
 use Rattle.change.specs.declared.Edit.TheVariants.{Heard as ToHear, Renewed}
 use Rattle.change.specs.declared.Move.{Move}
 use Rattle.change.specs.declared.Change.{Change}
@@ -78,3 +84,16 @@ unfoldable pub listened : Phase → Coordinator → List Node → Header → Lis
 listened phase c t h p room =
     ruled ((not (eqb h.destination 255), NotForUs) ∷ (is_stray phase c.kept h.message, NotDiscovering) ∷ []) (refused c t)
     (waited phase c t h p room)
+
+-- a 1.0 board may answer, by the record of the board that the stand names and by what was discovered (02, C-15)
+abbrev pub hears_from : Phase → Node → Found → Bool
+hears_from Resting n f = false
+hears_from (Awaiting board exchange requester acked) n f = is_old n.version
+hears_from (ForwardDue board requester) n f = false
+hears_from (ReturnDue board) n f = false
+hears_from (Seeking position part) n f = seeks_old part f
+hears_from Unknown n f = false
+
+-- the subnet in which bytes are read, by what was seen and that record (02, C-15)
+abbrev pub read_from : Seen → Node → List ℕ → ℕ
+read_from s n b = choose (hears_from (phase_of s.state.stand) n s.state.found && eqb (header_of b).subnet old_subnet) old_subnet s.setup.subnet

@@ -1,14 +1,16 @@
 // The step of bytes received: which frame a wait takes, and what the panel does on it.
+#![tactic(auto)]
+
 ghost use Rattle.std.specs.Prelude.{◌≡◌, true, length};
 ghost use Rattle.board.specs.Table.{at};
 ghost use Rattle.board.specs.Columns.{kinds_of, versions_of};
 ghost use Rattle.coordinator.specs.Phase.{phase_of};
 ghost use Rattle.coordinator.specs.State.{bare};
 ghost use Rattle.look.specs.Seen.{OfBoards};
-ghost use Rattle.steps.specs.Receive.{is_seeking, answers_forward, is_stray, taken_as, seeks_old, hears_old, read_by, receive_of};
+ghost use Rattle.steps.specs.Receive.{is_seeking, answers_forward, is_stray, taken_as, seeks_old, receive_of};
 ghost use Rattle.steps.specs.Seek.{source_in};
 ghost use Rattle.change.specs.Decides.{Takes, Decides};
-ghost use Rattle.receive.specs.Parts.{hearing, Acknowledges, Acks, Hears, is_acknowledged, Follows, TakesFrame, waited, listened};
+ghost use Rattle.receive.specs.Parts.{hearing, Acknowledges, Acks, Hears, is_acknowledged, Follows, TakesFrame, waited, listened, hears_from, read_from};
 
 use accept::Heard;
 use board::Node;
@@ -104,7 +106,7 @@ fn heard_in(
 }
 
 // What follows a frame once its sender is acknowledged: the answer, and what becomes of the coordinator.
-#[derive(Drop)]
+#[derive(Clone, Copy)]
 struct Next {
     answer: Answer,
     moves: Move,
@@ -296,7 +298,7 @@ fn answers_forward(phase: Phase, head: Head, message: u8) -> bool
 fn is_stray(phase: Phase, head: Head, message: u8) -> bool
     ensures { result ≡ is_stray phase (bare head) message }
 {
-    let reply = (0x_f9 <= message) & (message <= 0x_fb);
+    let reply = (0xF9 <= message) & (message <= 0xFB);
     reply & !is_seeking(phase) & !answers_forward(phase, head, message)
 }
 
@@ -369,7 +371,7 @@ fn seeks_old(part: Part, found: Found) -> bool
 
 // Whether a 1.0 board may answer in a phase. The node is the record of the board that the stand names.
 fn hears_old(phase: Phase, node: Node, found: Found) -> bool
-    ensures { result ≡ hears_old phase (λ board. node) found }
+    ensures { result ≡ hears_from phase node found }
 {
     match phase {
         Phase::Awaiting {
@@ -386,7 +388,7 @@ fn hears_old(phase: Phase, node: Node, found: Found) -> bool
 // The subnet in which bytes are read: a 1.0 board's where they carry it and one may answer, else ours. The node is the
 // record of the board that the stand names.
 fn read_in(seen: Seen, node: Node, received: &[u8]) -> u8
-    ensures { result ≡ read_by (hears_old (phase_of seen.state.stand) (λ board. node) seen.state.found) seen.setup.subnet received.now }
+    ensures { result ≡ read_from seen node received.now }
 {
     let ours = seen.setup.subnet;
     if received.len() < 3 {

@@ -1,8 +1,10 @@
 // The numbers by which the panel refuses. A refusal is a case; the rule book's number is `number`. 17 is retired, and 28 and 29 are none's yet.
+#![tactic(auto)]
+
 ghost use Rattle.std.specs.Prelude.{◌≡◌};
 ghost use Rattle.refusal.specs.Refusal.{number_of};
 
-#[derive(Drop)]
+#[derive(Clone, Copy)]
 pub enum Refusal {
     // 1: under 12 bytes
     Short,
@@ -18,7 +20,7 @@ pub enum Refusal {
     NotAwaited,
     // 7: a type that this wait does not take, or a type 0 that is no ACK
     UnexpectedType,
-    // 8: after a list, 0x94 with another payload; after Set Address, 0x_fa with another payload
+    // 8: after a list, 0x94 with another payload; after Set Address, 0xFA with another payload
     BadEcho,
     // 9: request with a method above 3
     BadMethod,
@@ -46,7 +48,7 @@ pub enum Refusal {
     BadPool,
     // 22: lent state or table not fit; an image of shared data of another size
     StateUnfit,
-    // 23: a response of types 0x_f9 to 0x_fb while no exchange by which a board joins runs
+    // 23: a response of types 0xF9 to 0xFB while no exchange by which a board joins runs
     NotDiscovering,
     // 24: a good frame whose subnet is not taken
     OtherSubnet,
@@ -62,7 +64,7 @@ pub enum Refusal {
     TooDeep,
     // 32: a payload without its fixed bytes, or a text of another length than its length byte says, or longer than its message may have
     BadTextLength,
-    // 33: a text byte outside 0x20 to 0x7_e
+    // 33: a text byte outside 0x20 to 0x7E
     BadText,
 }
 

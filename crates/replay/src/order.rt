@@ -3,7 +3,7 @@ use script::Count;
 use steps::Event;
 
 // The first words.
-#[derive(Drop)]
+#[derive(Clone, Copy)]
 enum Word {
     Setup,
     Join,
@@ -16,7 +16,7 @@ enum Word {
 }
 
 // What a line asks for; the addresses and the frame stand in the bytes beside it, as many as it says.
-#[derive(Drop)]
+#[derive(Clone, Copy)]
 pub(crate) enum Order {
     Pass,
     Setup {

@@ -1,4 +1,6 @@
 // Where a request goes. The send method says how to read parameter 1: as a control command, a node type or a socket.
+#![tactic(auto)]
+
 ghost use Rattle.std.specs.Prelude.{◌≡◌};
 ghost use Rattle.board.specs.Columns.{typed};
 ghost use Rattle.routing.specs.Priority.{priority_list};

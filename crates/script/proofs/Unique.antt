@@ -3,7 +3,7 @@ use mathlib.Core.Path.{◌≡◌, sym, ◌∙◌}
 use mathlib.Core.Bool.{Bool}
 use mathlib.Core.List.{List}
 use Prim.Native.Nat.{ℕ}
-use denote.Ref.{Bor}
+use denote.Ref.{Bor, MutBor}
 use Rattle.script.specs.declared.Field.{Field}
 use Rattle.script.specs.declared.Count.{Count}
 use Rattle.script.proofs.within.Reads as within
@@ -33,8 +33,8 @@ unique_field_at κs a s t r q p p' = p.0 ∙ sym p'.0
 pub unique_byte : (a s t : _) (r q : ℕ) → byte.Post tt a r s → byte.Post tt a q t → r ≡ q
 unique_byte a s t r q p p' = p ∙ sym p'
 
-pub unique_bytes_from : (κs : _) (a s t : Bor (List ℕ) × (ℕ × (Bor (List ℕ) × Unit {0}))) (r q : Count) → bytes-from.Post κs a r s → bytes-from.Post κs a q t → (r ≡ q) × (s.1.1.0.now ≡ t.1.1.0.now)
+pub unique_bytes_from : (κs : _) (a s t : Bor (List ℕ) × (ℕ × (MutBor (List ℕ) × Unit {0}))) (r q : Count) → bytes-from.Post κs a r s → bytes-from.Post κs a q t → (r ≡ q) × (s.1.1.0.now ≡ t.1.1.0.now)
 unique_bytes_from κs a s t r q p p' = (p.0 ∙ sym p'.0, p.1 ∙ sym p'.1)
 
-pub unique_spell : (κs : _) (a s t : Bor (List ℕ) × (Bor (List ℕ) × Unit {0})) (r q : ℕ) → spell.Post κs a r s → spell.Post κs a q t → (r ≡ q) × (s.1.0.now ≡ t.1.0.now)
+pub unique_spell : (κs : _) (a s t : Bor (List ℕ) × (MutBor (List ℕ) × Unit {0})) (r q : ℕ) → spell.Post κs a r s → spell.Post κs a q t → (r ≡ q) × (s.1.0.now ≡ t.1.0.now)
 unique_spell κs a s t r q p p' = (p.0.0 ∙ sym p'.0.0, p.0.1 ∙ sym p'.0.1)

@@ -1,5 +1,7 @@
 // The lines of a script: their words, numbers and bytes in hex (docs/REPLAY.md, "A script"). Words are separated by one space, so that two
 // spaces in a row hold an empty word, which is none of anybody's.
+#![tactic(auto)]
+
 ghost use Rattle.std.specs.Prelude.{◌≡◌, true, ◌*◌, ◌/◌, ◌%◌, ◌≤◌, ◌<◌, min, length, take};
 ghost use Rattle.io.specs.Counts.{IsPrefixLen};
 ghost use Rattle.ground.specs.Bytes.{laid};
@@ -11,7 +13,7 @@ ghost use Rattle.script.specs.Hex.{nibble as Hex·nibble, all_hex, is_hex, hex_b
 pub const ANY: u64 = 18446744073709551615;
 
 // A number read off a line, where the next word begins (past the line's end where there is none), and whether it is one that fits.
-#[derive(Drop)]
+#[derive(Clone, Copy)]
 pub struct Field {
     pub value: u64,
     pub next: usize,
@@ -19,7 +21,7 @@ pub struct Field {
 }
 
 // How many there are, and whether each is what it has to be.
-#[derive(Drop)]
+#[derive(Clone, Copy)]
 pub struct Count {
     pub value: usize,
     pub ok: bool,
@@ -73,7 +75,7 @@ pub fn same(a: &[u8], b: &[u8]) -> bool
 }
 
 // What a word of digits is worth, where it is one that sixty-four bits hold.
-#[derive(Drop)]
+#[derive(Clone, Copy)]
 enum Worth {
     Number(u64),
     Other,

@@ -2,7 +2,7 @@
 use Prim.Native.Nat.{ℕ}
 use mathlib.Core.Path.{◌≡◌, sym, ◌∙◌}
 use mathlib.Core.List.{List}
-use denote.Ref.{Bor}
+use denote.Ref.{Bor, MutBor}
 use Rattle.frame.specs.declared.Header.{Header}
 use Rattle.board.specs.declared.Node.{Node}
 use Rattle.coordinator.specs.declared.Coordinator.{Coordinator}
@@ -17,7 +17,7 @@ use Rattle.seek.proofs.quieted.Reads as quieted
 
 -- what was passed to a discovery, and the same at its exit
 abbrev DiscoverArgs : Type 0
-DiscoverArgs = Seen × (Bor (List ℕ) × (Bor (List ℕ) × Unit {0}))
+DiscoverArgs = Seen × (Bor (List ℕ) × (MutBor (List ℕ) × Unit {0}))
 
 pub unique_discover : (κs : _) (a s t : DiscoverArgs) (r q : Change) → discover.Post κs a r s → discover.Post κs a q t → (p : List ℕ) (c : Coordinator) (u : List Node) → Saw a.0 c u → OfTypes a.1.0.now c u
     → (applied r p c u ≡ applied q p c u) × (s.1.1.0.now ≡ t.1.1.0.now)
@@ -25,7 +25,7 @@ unique_discover κs a s t r q h h' = λ p c u saw known. ((h p c u saw known).0 
 
 -- and to a frame in the exchange
 abbrev SoughtArgs : Type 0
-SoughtArgs = Part × (ℕ × (Seen × (Bor (List ℕ) × (Bor (List ℕ) × (Bor (List ℕ) × (Header × (Bor (List ℕ) × (Bor (List ℕ) × Unit {0}))))))))
+SoughtArgs = Part × (ℕ × (Seen × (Bor (List ℕ) × (Bor (List ℕ) × (Bor (List ℕ) × (Header × (Bor (List ℕ) × (MutBor (List ℕ) × Unit {0}))))))))
 
 pub unique_sought : (κs : _) (a s t : SoughtArgs) (r q : Change) → sought.Post κs a r s → sought.Post κs a q t → (p : List ℕ) (c : Coordinator) (u : List Node) → Saw a.1.1.0 c u → OfBoards a.1.1.1.0.now a.1.1.1.1.0.now a.1.1.1.1.1.0.now c u
     → (applied r p c u ≡ applied q p c u) × (s.1.1.1.1.1.1.1.1.0.now ≡ t.1.1.1.1.1.1.1.1.0.now)

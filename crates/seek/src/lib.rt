@@ -1,5 +1,7 @@
 // The exchange by which a board joins: the step that starts it, and what its parts do on a frame and on a quiet. What it
 // has due is the crate turn's to send.
+#![tactic(auto)]
+
 ghost use Rattle.std.specs.Prelude.{ℕ, ◌≤◌, ◌≡◌, List, length, drop};
 ghost use Rattle.refusal.specs.Refusal.{ruled};
 ghost use Rattle.frame.specs.Frame.{byte};

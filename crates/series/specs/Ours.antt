@@ -1,7 +1,7 @@
 -- Our panel: the definitions of the steps.
 use Rattle.steps.specs.Start.{start_of}
 use Rattle.steps.specs.Step.{step_of}
-use Rattle.series.specs.Series.{Input, World, Panel}
+use Rattle.series.specs.Series.{Panel}
 
 abbrev pub ours : Panel
 ours =

@@ -24,7 +24,7 @@ is_sending Discover = true
 abbrev pub addressed : Setup → Told → ℕ
 addressed s says = choose (eqb (waits_in says) 5 || eqb (waits_in says) 7) 0 (address s (waited_for says))
 
--- the message types of each exchange: an offer 0, a list 0x14, a forward a request's, a return a response's, Node Discovery 0x79, Get Node ID 0x7_b, Set Address 0x7_a
+-- the message types of each exchange: an offer 0, a list 0x14, a forward a request's, a return a response's, Node Discovery 0x79, Get Node ID 0x7B, Set Address 0x7A
 abbrev pub is_type_of : ℕ → ℕ → Bool
 is_type_of exchange message =
     choose (eqb exchange 1) (eqb message 0)

@@ -1,5 +1,7 @@
 // The panel's setup: the pool of addresses, the bytes that its frames carry, its own MAC and session. And the part of
 // "fit" that speaks of the setup and of the table.
+#![tactic(auto)]
+
 ghost use Rattle.std.specs.Prelude.{◌≡◌, [], ◌+◌, ◌≤◌, ◌<◌, min, length, get_or, eqb};
 ghost use Rattle.refusal.specs.Refusal.{ruled, refuses, gives};
 ghost use Rattle.board.specs.Node.{is_mac, is_blank, in_range};
@@ -13,7 +15,7 @@ use refusal::Refusal;
 
 // The first k of the pool are in use. `internal` is the type of the virtual internal subordinate.
 #[repr(C)]
-#[derive(Drop)]
+#[derive(Clone, Copy)]
 pub struct Setup {
     pub pool: [u8; 40],
     pub k: usize,
@@ -24,7 +26,7 @@ pub struct Setup {
 }
 
 // What the setup step says of a pool and a MAC.
-#[derive(Drop)]
+#[derive(Clone, Copy)]
 pub enum Judged {
     Fine,
     Refused(Refusal),
@@ -112,7 +114,7 @@ pub fn subnet_of(setup: Setup, version: u8) -> u8
 pub fn is_mac(mac: u64) -> bool
     ensures { result ≡ is_mac mac }
 {
-    (0 < mac) & (mac < 0x100_0000_0000_0000)
+    (0 < mac) & (mac < 0x100000000000000)
 }
 
 // The setup is fit: its pool and its own MAC.

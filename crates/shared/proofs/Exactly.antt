@@ -15,7 +15,7 @@ use Rattle.refusal.specs.declared.Refusal.{Refusal}
 use Rattle.refusal.specs.declared.Refusal.TheVariants.{NoRoom, StateUnfit, BadLength, NoSlot}
 use Rattle.refusal.proofs.Numbers.{same_refused, gives_not}
 use Rattle.refusal.proofs.Rules.{Passed, passed, refused, whether, said, refused_not, refused_first, refused_later, accepted_exactly, by_rules}
-use Rattle.shared.specs.Image.{image_long, slots, sector_at, length_at, is_length, holds, is_free, slot_of, free_slot, has}
+use Rattle.shared.specs.Image.{image_long, sector_at, length_at, is_length, holds, is_free, slot_of, free_slot, has}
 use Rattle.shared.specs.Holder.{both_rules, serving, holder_number, holding}
 use Rattle.shared.specs.Store.{taken, InUse, store_rules, storing}
 use Rattle.shared.specs.Answer.{room_rules, fitted, fitted_bytes, answer_payload, answering, answer_bytes}

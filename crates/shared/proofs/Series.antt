@@ -12,7 +12,6 @@ use Rattle.ground.proofs.Choices.{choose_yes, choose_no, both, not_left, not_rig
 use Rattle.refusal.specs.Refusal.{Told, refuses, gives}
 use Rattle.refusal.specs.declared.Refusal.{Refusal}
 use Rattle.refusal.proofs.Numbers.{not_zero, told_number}
-use Rattle.refusal.proofs.Rules.{each}
 use Rattle.shared.specs.Image.{image_long}
 use Rattle.shared.specs.Holder.{record_in}
 use Rattle.shared.specs.Store.{taken, storing, stored}

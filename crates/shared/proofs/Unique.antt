@@ -2,7 +2,7 @@
 use Prim.Native.Nat.{ℕ}
 use mathlib.Core.Path.{◌≡◌, sym, ◌∙◌}
 use mathlib.Core.List.{List}
-use denote.Ref.{Bor}
+use denote.Ref.{Bor, MutBor}
 use Rattle.frame.specs.declared.Writing.{Writing}
 use Rattle.frame.specs.declared.WriteNumbers.{WriteNumbers}
 use Rattle.frame.proofs.Unique.{one_writing}
@@ -29,8 +29,8 @@ pub unique_nadrelgos_shared_holder : (κs a s t : _) (r q : HolderNumbers) → f
 unique_nadrelgos_shared_holder κs a s t r q p p' = p ∙ sym p'
 
 -- the network's copy, the sector and the record that a store is given, and the same at its exit
-abbrev Kept : Type 0
-Kept = Bor (List ℕ) × (ℕ × (Bor (List ℕ) × Unit {0}))
+abbrev pub Kept : Type 0
+Kept = MutBor (List ℕ) × (ℕ × (Bor (List ℕ) × Unit {0}))
 
 pub unique_store : (κs : _) (a s t : Kept) (r q : Storing) → store.Post κs a r s → store.Post κs a q t → (r ≡ q) × (s.0.now ≡ t.0.now)
 unique_store κs a s t r q p p' = (same_stored r q (p.0 ∙ sym p'.0), p.1 ∙ sym p'.1)
@@ -39,8 +39,8 @@ pub unique_nadrelgos_shared_store : (κs : _) (a s t : Kept) (r q : StoreNumbers
 unique_nadrelgos_shared_store κs a s t r q p p' = (p.0 ∙ sym p'.0, p.1 ∙ sym p'.1)
 
 -- the images, the sector and the room that the writer of an answer is given, and the same at its exit
-abbrev Asked : Type 0
-Asked = Bor (List ℕ) × (Bor (List ℕ) × (ℕ × (Bor (List ℕ) × Unit {0})))
+abbrev pub Asked : Type 0
+Asked = Bor (List ℕ) × (Bor (List ℕ) × (ℕ × (MutBor (List ℕ) × Unit {0})))
 
 pub unique_write_answer : (κs : _) (a s t : Asked) (r q : Writing) → write-answer.Post κs a r s → write-answer.Post κs a q t → (r ≡ q) × (s.1.1.1.0.now ≡ t.1.1.1.0.now)
 unique_write_answer κs a s t r q p p' = one_writing r q p p'

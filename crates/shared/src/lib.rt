@@ -1,4 +1,6 @@
 // Shared data for a replaced control: the records that boards keep in the network, one for each sector, in images that the host lends.
+#![tactic(auto)]
+
 ghost use Rattle.std.specs.Prelude.{◌≡◌, true, [], ◌∷◌, ◌≤◌, ◌<◌, length};
 ghost use Rattle.ground.specs.Bytes.{laid};
 ghost use Rattle.refusal.specs.Refusal.{gives};
@@ -22,7 +24,7 @@ const SLOT: usize = 202;
 pub const IMAGE: usize = 8080;
 
 // Who holds the record of a sector: a slot, from 1, of the network's copy or of the factory image, or nobody; or why nothing was looked for.
-#[derive(Drop)]
+#[derive(Clone, Copy)]
 pub enum Found {
     Network(usize),
     Factory(usize),
@@ -31,7 +33,7 @@ pub enum Found {
 }
 
 // What storing a record comes to: its slot, from 1, or why it was not stored.
-#[derive(Drop)]
+#[derive(Clone, Copy)]
 pub enum Storing {
     Stored(usize),
     Refused(Refusal),
@@ -40,7 +42,7 @@ pub enum Storing {
 // Who holds a record, for C: the refusal's number or 0, the image (1 network, 2 factory, 0 neither), the slot, and where in that image the
 // record stands.
 #[repr(C)]
-#[derive(Drop)]
+#[derive(Clone, Copy)]
 pub struct HolderNumbers {
     pub refusal: u8,
     pub image: u8,
@@ -51,7 +53,7 @@ pub struct HolderNumbers {
 
 // A storing, for C: the refusal's number or 0, the slot, and which bytes of the image were written.
 #[repr(C)]
-#[derive(Drop)]
+#[derive(Clone, Copy)]
 pub struct StoreNumbers {
     pub refusal: u8,
     pub slot: u8,
@@ -246,12 +248,7 @@ fn held_by(number: u8, image: &[u8], slot: usize) -> HolderNumbers
 }
 
 // What `holder` finds, for C.
-#[unsafe(no_mangle)]
-pub extern "C" fn nadrelgos_shared_holder(
-    network: &[u8],
-    factory: &[u8],
-    sector: u8,
-) -> HolderNumbers
+pub fn nadrelgos_shared_holder(network: &[u8], factory: &[u8], sector: u8) -> HolderNumbers
     ensures { result ≡ holder_numbers (holding network.now factory.now sector) (record_in network.now factory.now sector) }
 {
     match holder(network, factory, sector) {
@@ -263,12 +260,7 @@ pub extern "C" fn nadrelgos_shared_holder(
 }
 
 // `store` for C.
-#[unsafe(no_mangle)]
-pub extern "C" fn nadrelgos_shared_store(
-    network: &mut [u8],
-    sector: u8,
-    bytes: &[u8],
-) -> StoreNumbers
+pub fn nadrelgos_shared_store(network: &mut [u8], sector: u8, bytes: &[u8]) -> StoreNumbers
     ensures { (result ≡ store_numbers (storing network.old sector bytes.now) bytes.now) × (network.new ≡ stored network.old sector bytes.now) }
 {
     match store(network, sector, bytes) {
@@ -288,8 +280,7 @@ pub extern "C" fn nadrelgos_shared_store(
 }
 
 // `write_answer` for C.
-#[unsafe(no_mangle)]
-pub extern "C" fn nadrelgos_shared_answer(
+pub fn nadrelgos_shared_answer(
     network: &[u8],
     factory: &[u8],
     sector: u8,

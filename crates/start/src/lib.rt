@@ -1,4 +1,6 @@
 // Setup: the fresh start. It clears all records, waits, dues and holds.
+#![tactic(auto)]
+
 ghost use Rattle.std.specs.Prelude.{◌≡◌, ◌≤◌, length, replicate};
 ghost use Rattle.ground.specs.Bytes.{laid};
 ghost use Rattle.steps.specs.Start.{setup_of};
@@ -10,7 +12,7 @@ use setup::{Judged, Setup};
 use steps::{Answer, Outcome};
 
 // The coordinator after setup, how many of the records it clears, all or none, and what it answers.
-#[derive(Drop)]
+#[derive(Clone, Copy)]
 pub struct Begun {
     pub coordinator: Coordinator,
     pub clear: usize,

@@ -109,7 +109,7 @@ module _ (s : Seen) (c : Coordinator) (t : List Node) (h : fits c t ≡ true) (g
     taken_tells Ack exchange q f p room = acked_tells exchange q _ (ack_changes _)
     taken_tells Echo exchange q f p room = acking_tells room transmits _ refl refl (λ a. rw (phase_back resting) tt)
     taken_tells Deliver exchange q f p room = acking_tells room delivers _ refl refl (λ a. rw (phase_back resting) tt)
-    taken_tells Route exchange q f p room = acking_tells room transmits (routed c f p b to) (routed_setup c f p b to) refl (λ a. routed_waits _ _ c f p b to)
+    taken_tells Route exchange q f p room = acking_tells room transmits (routed c f p b to) (routed_setup c f p b to) refl (λ a. routed_waits (saw_board received a s) (routed c f p b to).found c f p b to)
       where
         to : ℕ
         to = route_of t c.setup.k b f.method f.parameter1

@@ -24,7 +24,7 @@ use Rattle.coordinator.proofs.Fitting.{fit_told, fits_forty}
 use Rattle.steps.specs.declared.Event.TheVariants.{Join}
 use Rattle.steps.specs.Join.{is_resting, chosen, join_rules, joined_as, join_of}
 use Rattle.steps.proofs.Chosen.{chosen_within}
-use Rattle.series.specs.Observed.{Seen}
+use Rattle.series.specs.Observed.{Seen, saw_event}
 use Rattle.lasting.proofs.Join.{idle}
 use Rattle.staying.proofs.Agreement.{Waits, Agrees, Told, Changes, put_changes, relist_changes, listed_tells, seen_tells, rules_tell}
 
@@ -54,7 +54,7 @@ module _ (s : Seen) (c : Coordinator) (t : List Node) (h : fits c t ≡ true) (g
   join_tells kind mac session version = rules_tell s c t (Join kind mac session version) [] g (join_rules c t kind mac version) _ (λ passed. joins passed)
     where
       joins : Passed (join_rules c t kind mac version) → Told s t (Join kind mac session version) [] (joined_as c t kind mac session version)
-      joins passed = seen_tells (Join kind mac session version) [] refl (listed_tells g (joined_changes c t h kind mac session version one found) refl refl (λ two three. omega arith) (record { listed = λ p. refl; run = λ p. refl; who = λ p. refl }) (rests_waits _ _ (phase_of c.stand) (idle _ _ passed.1.1.1.0)))
+      joins passed = seen_tells (Join kind mac session version) [] refl (listed_tells g (joined_changes c t h kind mac session version one found) refl refl (λ two three. omega arith) (record { listed = λ p. refl; run = λ p. refl; who = λ p. refl }) (rests_waits (saw_event (Join kind mac session version) [] (joined_as c t kind mac session version) s) c.found (phase_of c.stand) (idle _ _ passed.1.1.1.0)))
         where
           one : is_kind kind ≡ true
           one = not-false (is_kind kind) passed.1.0

@@ -72,7 +72,7 @@ module _ (s : Seen) (c : Coordinator) (t : List Node) (h : fits c t ≡ true) (g
 
     -- the third miss
     dropped_tells : ltb (at t b).misses 2 ≡ false → Told s t Quiet [] (dropped_at c t b)
-    dropped_tells third = seen_tells Quiet [] refl (record { agrees = agrees_changed g change (λ e. absurd (false≢true e)) (λ e. absurd (false≢true e)) (record { listed = λ p. dropped_listed s (dropped_at c t b) p board.from; run = run_more; who = changed_none s.who b (s.who b) refl }) (at_rest _ _ c (some_listed (put t b none))); only = λ p. only p (ℕ_discrete p b); then = λ p. then p (ℕ_discrete p b) })
+    dropped_tells third = seen_tells Quiet [] refl (record { agrees = agrees_changed g change (λ e. absurd (false≢true e)) (λ e. absurd (false≢true e)) (record { listed = λ p. dropped_listed s (dropped_at c t b) p board.from; run = run_more; who = changed_none s.who b (s.who b) refl }) (at_rest (saw_quiet (dropped_at c t b) s) (dropped_at c t b).coordinator.found c (some_listed (put t b none))); only = λ p. only p (ℕ_discrete p b); then = λ p. then p (ℕ_discrete p b) })
       where
         change : Changes t (relisted (put t b none)) b false 0 (recorded none)
         change = relist_changes (put_changes t b none board.from (inside c t h board) refl refl)

@@ -1,5 +1,5 @@
 -- Boards that speak 1.0: beside one at most 15 types are listed, every list tells the listed types and no other, and their subnet is heard only where one may answer.
-use Prim.Native.Nat.{ℕ, ◌<◌, ◌≤◌}
+use Prim.Native.Nat.{ℕ, ◌≤◌}
 use native.Mathlib.Omega.{arith}
 use mathlib.Core.Path.{◌≡◌, refl, sym, ap, ◌∙◌}
 use mathlib.Core.Bool.{Bool, true, false, ◌||◌, false≢true}
@@ -15,7 +15,6 @@ use Rattle.refusal.proofs.Rules.{Passed}
 use Rattle.frame.specs.Frame.{header_of, takes_subnet, read_rules, reading}
 use Rattle.frame.proofs.Told.{passed_read}
 use Rattle.board.specs.Node.{is_old}
-use Rattle.board.specs.Table.{at}
 use Rattle.board.specs.Columns.{kinds_of}
 use Rattle.board.specs.Types.{type_count}
 use Rattle.setup.specs.Setup.{old_subnet}
@@ -36,7 +35,7 @@ use Rattle.series.specs.Series.{Input, World, Fresh, after, is_accepted}
 use Rattle.series.specs.Observed.{Seen, nothing, seen}
 use Rattle.series.specs.AsJoined.{noted}
 use Rattle.series.specs.Others.{only_says}
-use Rattle.series.specs.OldBoards.{may_answer, OldBoards}
+use Rattle.series.specs.OldBoards.{may_answer, OldBoards, OldHeard}
 use Rattle.series.specs.Ours.{ours}
 use Rattle.lasting.proofs.Series.{lasting_fit}
 use Rattle.lasting.proofs.Taken.{by_accepted}
@@ -75,7 +74,7 @@ module _ {s : Seen} {w : World} (g : Holds s w) where
   may_part AssignDue on i = absurd (false≢true on)
   may_part Assign on i = may_found i.0.0 refl i.0.1 i.1
 
-  may_wait : (phase : Phase) → phase_of w.coordinator.stand ≡ phase → is_awaiting phase ≡ true → may_answer s ≡ hears_old phase (at w.nodes) found
+  may_wait : (phase : Phase) → phase_of w.coordinator.stand ≡ phase → is_awaiting phase ≡ true → may_answer s ≡ hears_old phase w.coordinator w.nodes
   may_wait Resting e on = absurd (false≢true on)
   may_wait (Awaiting b x q a) e on =
       let here = (rw e at g.agrees.wait).0 in
@@ -107,7 +106,7 @@ module _ {s : Seen} {w : World} (g : Holds s w) where
     part_deaf AssignDue i = due_deaf i.0 i.1
     part_deaf Assign i = sym (may_part Assign refl i) ∙ none
 
-    deaf : (phase : Phase) → phase_of w.coordinator.stand ≡ phase → hears_old phase (at w.nodes) found ≡ false
+    deaf : (phase : Phase) → phase_of w.coordinator.stand ≡ phase → hears_old phase w.coordinator w.nodes ≡ false
     deaf Resting e = refl
     deaf (Awaiting b x q a) e = sym (may_wait (Awaiting b x q a) e refl) ∙ none
     deaf (ForwardDue b q) e = refl
@@ -127,6 +126,8 @@ old_boards =
     record {
       few = few_told;
       types = λ k w f is room e kind l. ap (λ (b : List ℕ). among kind (drop 1 b)) (told_list k w f is room e) ∙ types_told _ (after ours w is).coordinator.setup.internal (noted (seen ours w nothing is)) (noted_size (seen ours w nothing is)) (λ old. few_told k w f is _ ((holds k w f is).agrees.listed _ ∙ (turn_carries (after ours w is).coordinator (after ours w is).nodes room).board e) old) kind l;
-      heard = λ k w f is room quiet may received. heard (holds k w f is) room quiet may received;
       unheard = λ k w f is none received room. unheard (holds k w f is) none received room;
     }
+
+pub old_heard : OldHeard ours
+old_heard = record { heard = λ k w f is room quiet may received. heard (holds k w f is) room quiet may received }

@@ -83,10 +83,10 @@ module _ (c : Coordinator) (t : List Node) where
     taken_unsaid (Seeking position part) = sought_unsaid position part
     taken_unsaid Unknown = apart NotAwaited refl
 
-  module _ (phase : Phase) (b : List ℕ) (hears : hears_old phase (at t) c.found ≡ true) (old : (header_of b).subnet ≡ old_subnet) where
+  module _ (phase : Phase) (b : List ℕ) (hears : hears_old phase c t ≡ true) (old : (header_of b).subnet ≡ old_subnet) where
     -- the subnet in which they are read takes them
     taken : takes_subnet (read_in phase c t b) (header_of b).subnet ≡ true
-    taken = or_left _ (eqb (header_of b).subnet 0) (eq-eqb _ _ (old ∙ sym (read_old (hears_old phase (at t) c.found) c.setup.subnet b hears old)))
+    taken = or_left _ (eqb (header_of b).subnet 0) (eq-eqb _ _ (old ∙ sym (read_old (hears_old phase c t) c.setup.subnet b hears old)))
 
     pub heard_old : (room : ℕ) → Unsaid (receive_in phase c t b room)
     unfolding receive_in

@@ -13,7 +13,6 @@ use Rattle.refusal.proofs.Rules.{Passed, stopped, unrefused, ruled_through}
 use Rattle.frame.specs.Frame.{fields, header_of, length_byte, takes_subnet, read_rules, reading, ReadsWell}
 use Rattle.frame.proofs.Told.{passed_read, read_whole}
 use Rattle.frame.proofs.Subnets.{other_exactly}
-use Rattle.board.specs.Table.{at}
 use Rattle.setup.specs.declared.Setup.{Setup}
 use Rattle.setup.specs.Setup.{old_subnet}
 use Rattle.steps.specs.declared.Event.{Event}
@@ -67,7 +66,7 @@ module _ (w : World) (fit : is_fit w ≡ true) where
       go : (e : Event) → is_frame e ≡ true → step_of w.coordinator w.nodes e i.received i.room ≡ only_says (reading w.coordinator.setup.subnet i.received) w
       go (Join kind mac session version) n = absurd (false≢true n)
       go Turn n = absurd (false≢true n)
-      go Frame n = unread i.received i.room (read_elsewhere (hears_old (phase_of w.coordinator.stand) (at w.nodes) w.coordinator.found) our_subnet i.received (others_old w.coordinator.setup i h)) (others_stopped w i h)
+      go Frame n = unread i.received i.room (read_elsewhere (hears_old (phase_of w.coordinator.stand) w.coordinator w.nodes) our_subnet i.received (others_old w.coordinator.setup i h)) (others_stopped w i h)
       go Quiet n = absurd (false≢true n)
       go Discover n = absurd (false≢true n)
 

@@ -2,7 +2,7 @@
 use mathlib.Core.Path.{◌≡◌, sym, ◌∙◌}
 use mathlib.Core.List.{List}
 use Prim.Native.Nat.{ℕ}
-use denote.Ref.{Bor}
+use denote.Ref.{Bor, MutBor}
 use Rattle.board.specs.declared.Node.{Node}
 use lib.ListN.{length}
 use Rattle.coordinator.specs.declared.Coordinator.{Coordinator}
@@ -16,7 +16,7 @@ use Rattle.stepping.proofs.counted.Reads as counted
 
 -- what is passed to the decision beside the count of the records, and the same at its exit
 abbrev Given : Type 0
-Given = Seen × (Node × (Bor (List ℕ) × (Bor (List ℕ) × (Bor (List ℕ) × (Bor (List ℕ) × (Bor (List ℕ) × (Event × (Bor (List ℕ) × (Bor (List ℕ) × Unit {0})))))))))
+Given = Seen × (Node × (Bor (List ℕ) × (Bor (List ℕ) × (Bor (List ℕ) × (Bor (List ℕ) × (Bor (List ℕ) × (Event × (Bor (List ℕ) × (MutBor (List ℕ) × Unit {0})))))))))
 
 abbrev received : Given → List ℕ
 received a = a.1.1.1.1.1.1.1.1.0.now

@@ -1,4 +1,6 @@
 // One step over an event, with the bytes received and the output that is lent: what was seen decides on a change.
+#![tactic(auto)]
+
 ghost use Rattle.std.specs.Prelude.{length};
 ghost use Rattle.steps.specs.Step.{step_of};
 ghost use Rattle.change.specs.Decides.{Takes};

@@ -70,7 +70,7 @@ answers_forward (ReturnDue board) m message = false
 answers_forward (Seeking position part) m message = false
 answers_forward Unknown m message = false
 
--- a response of type 0x_f9 to 0x_fb outside the exchange, unless the forward now awaited is of the request that it answers (02, C-11, number 23)
+-- a response of type 0xF9 to 0xFB outside the exchange, unless the forward now awaited is of the request that it answers (02, C-11, number 23)
 abbrev pub is_stray : Phase → Kept → ℕ → Bool
 is_stray phase m message = reply_type message && not (is_seeking phase) && not (answers_forward phase m message)
 
@@ -149,22 +149,18 @@ seeks_old Present f = is_old f.version
 seeks_old AssignDue f = is_old f.version
 seeks_old Assign f = is_old f.version
 
--- the board awaited, by the records, or what was discovered is a 1.0 board, or anyone is looked for (02, C-15)
-abbrev pub hears_old : Phase → (ℕ → Node) → Found → Bool
-hears_old Resting node f = false
-hears_old (Awaiting board exchange requester acked) node f = is_old (node board).version
-hears_old (ForwardDue board requester) node f = false
-hears_old (ReturnDue board) node f = false
-hears_old (Seeking position part) node f = seeks_old part f
-hears_old Unknown node f = false
+-- the board awaited or discovered is a 1.0 board, or anyone is looked for (02, C-15)
+abbrev pub hears_old : Phase → Coordinator → List Node → Bool
+hears_old Resting c t = false
+hears_old (Awaiting board exchange requester acked) c t = is_old (at t board).version
+hears_old (ForwardDue board requester) c t = false
+hears_old (ReturnDue board) c t = false
+hears_old (Seeking position part) c t = seeks_old part c.found
+hears_old Unknown c t = false
 
 -- the subnet in which bytes are read: a 1.0 board's, 2, where they carry it and such a board may answer, else ours; 0 is always taken (02, C-15: "reading takes it too")
-abbrev pub read_by : Bool → ℕ → List ℕ → ℕ
-read_by old ours b = choose (old && eqb (header_of b).subnet old_subnet) old_subnet ours
-
--- and so in a phase, by coordinator and records
 abbrev pub read_in : Phase → Coordinator → List Node → List ℕ → ℕ
-read_in phase c t b = read_by (hears_old phase (at t) c.found) c.setup.subnet b
+read_in phase c t b = choose (hears_old phase c t && eqb (header_of b).subnet old_subnet) old_subnet c.setup.subnet
 
 -- when bytes are refused before a wait looks at them: 22, then 1 to 4 and 24, then 5, 23 and 6; 7 to 9 and then 11 follow in `taken_in` (01, "Order"; 02, C-11, C-14 and C-15)
 abbrev pub receive_rules : Phase → Coordinator → List Node → List ℕ → List (Bool × Refusal)

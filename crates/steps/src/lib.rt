@@ -1,5 +1,7 @@
 // What a step is told and what it gives. The rules of the steps themselves are the definitions of specs/; the code that
 // meets them stands in the crates start, join, turn, receive, quiet and seek.
+#![tactic(auto)]
+
 ghost use Rattle.std.specs.Prelude.{◌≡◌};
 ghost use Rattle.steps.specs.Seek.{is_waiting};
 
@@ -9,7 +11,7 @@ use refusal::Refusal;
 
 // What happens to the panel: a board has joined, it is the panel's turn, bytes came in, nothing came in, boards without an
 // address are to be looked for.
-#[derive(Drop)]
+#[derive(Clone, Copy)]
 pub enum Event {
     Join {
         kind: u8,
@@ -24,7 +26,7 @@ pub enum Event {
 }
 
 // The waits of the exchange by which a board joins.
-#[derive(Drop)]
+#[derive(Clone, Copy)]
 pub enum Seek {
     Search,
     Identify,
@@ -33,7 +35,7 @@ pub enum Seek {
 
 // What the panel now does. It waits for a listed board in a kind of exchange, or, in the exchange by which a board joins,
 // for whoever is or will be at the address of a position, listed or not.
-#[derive(Drop)]
+#[derive(Clone, Copy)]
 pub enum Answer {
     Wait(usize, Exchange),
     Seek(usize, Seek),
@@ -44,7 +46,7 @@ pub enum Answer {
 }
 
 // The answer, the count of bytes written, the position joined and the position dropped, 0 for none.
-#[derive(Drop)]
+#[derive(Clone, Copy)]
 pub struct Outcome {
     pub answer: Answer,
     pub written: usize,
@@ -53,7 +55,7 @@ pub struct Outcome {
 }
 
 // What a step leaves.
-#[derive(Drop)]
+#[derive(Clone, Copy)]
 pub struct Stepped {
     pub coordinator: Coordinator,
     pub table: Table,

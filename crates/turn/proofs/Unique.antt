@@ -2,7 +2,7 @@
 use Prim.Native.Nat.{ℕ}
 use mathlib.Core.Path.{◌≡◌, sym, ◌∙◌}
 use mathlib.Core.List.{List}
-use denote.Ref.{Bor}
+use denote.Ref.{Bor, MutBor}
 use Rattle.board.specs.declared.Node.{Node}
 use Rattle.coordinator.specs.declared.Coordinator.{Coordinator}
 use Rattle.look.specs.declared.Seen.{Seen}
@@ -13,7 +13,7 @@ use Rattle.turn.proofs.turn.Reads as turn
 
 -- what was passed to the step, and the same at its exit: what is seen, the payload, types, stored indexes and versions, the output
 abbrev Args : Type 0
-Args = Seen × (Bor (List ℕ) × (Bor (List ℕ) × (Bor (List ℕ) × (Bor (List ℕ) × (Bor (List ℕ) × Unit {0})))))
+Args = Seen × (Bor (List ℕ) × (Bor (List ℕ) × (Bor (List ℕ) × (Bor (List ℕ) × (MutBor (List ℕ) × Unit {0})))))
 
 pub unique_turn : (κs : _) (a s t : Args) (r q : Change) → turn.Post κs a r s → turn.Post κs a q t
     → (p : List ℕ) (c : Coordinator) (u : List Node) → Saw a.0 c u → (a.1.0.now ≡ c.kept.payload) × OfTypes a.1.1.0.now c u × OfIndexes a.1.1.1.0.now c u × OfVersions a.1.1.1.1.0.now c u

@@ -1,4 +1,6 @@
 // Turn: the panel's next transmission.
+#![tactic(auto)]
+
 ghost use Rattle.std.specs.Prelude.{◌≡◌, length, take, false};
 ghost use Rattle.board.specs.Table.{at};
 ghost use Rattle.message.specs.Message.{to_board, Sends};

@@ -1,4 +1,6 @@
 // MAC and session as the wire carries them: eight bytes, low byte first.
+#![tactic(auto)]
+
 ghost use Rattle.std.specs.Prelude.{◌≡◌, ◌≤◌, length};
 ghost use Rattle.word.specs.Words.{bytes_of, value_of, word_at};
 

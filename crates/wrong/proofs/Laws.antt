@@ -9,10 +9,13 @@ use lib.ListN.{length, drop, get_or}
 use lib.Dec.{eqb, leb, ltb}
 use borrow.Author.Tests.{eqb-false, leb-true, ltb-true}
 use Rattle.ground.specs.Below.{among}
+use Rattle.refusal.specs.Refusal.{refuses}
+use Rattle.refusal.specs.declared.Refusal.TheVariants.{OtherSubnet}
 use Rattle.frame.specs.Frame.{header_of, takes_subnet, reading, payload_of}
-use Rattle.board.specs.Node.{is_kind, is_mac}
+use Rattle.board.specs.Node.{is_kind, is_mac, is_old}
 use Rattle.board.specs.Table.{at, listed_at}
 use Rattle.board.specs.Columns.{kinds_of}
+use Rattle.board.specs.Types.{type_count}
 use Rattle.board.specs.Wanted.{some_listed, index_of}
 use Rattle.setup.specs.Setup.{is_pool, old_subnet, address}
 use Rattle.nodelist.specs.List.{list_for}
@@ -24,9 +27,9 @@ use Rattle.series.specs.Demand.{WhoStays, NoTwoAlike, RoundRobin, Bounded, Never
 use Rattle.series.specs.AsJoined.{noted, is_own, forwarded_to, destined, AsJoined}
 use Rattle.series.specs.StoredIndex.{stored_at, carries_index, StoredIndex}
 use Rattle.series.specs.Exchange.{Runs, comes, reached, is_running, OneJoin, discoveries, peopled, Seldom}
-use Rattle.series.specs.Wire.{is_sending, addressed, OnTheWire}
+use Rattle.series.specs.Wire.{is_sending, addressed, reached_in, OnTheWire}
 use Rattle.series.specs.Others.{is_others, OthersUnheard}
-use Rattle.series.specs.OldBoards.{may_answer, OldBoards}
+use Rattle.series.specs.OldBoards.{may_answer, OldBoards, OldHeard}
 
 module _ {P : Panel} {k : ℕ} {w : World} (f : Fresh P k w) (is : List Input) where
   module _ (i : Input) (p : ℕ) where
@@ -126,8 +129,8 @@ module _ {P : Panel} {k : ℕ} {w : World} (f : Fresh P k w) (is : List Input) w
   misdirected i to named sends taken goes tells apart s = eqb-false to named apart (sym goes ∙ (s k w f is i sends taken).to ∙ tells)
 
   -- or in another subnet than his
-  pub missent : (i : Input) (in named : ℕ) → is_sending i.event ≡ true → is_accepted (P.step (after P w is) i).says ≡ true → (header_of (P.step (after P w is) i).bytes).subnet ≡ in → reached_in (P.step (after P w is) i).coordinator (P.step (after P w is) i).nodes (P.step (after P w is) i).says ≡ named → eqb in named ≡ false → OnTheWire P → ⊥
-  missent i in named sends taken goes tells apart s = eqb-false in named apart (sym goes ∙ (s k w f is i sends taken).subnet ∙ tells)
+  pub missent : (i : Input) (sub named : ℕ) → is_sending i.event ≡ true → is_accepted (P.step (after P w is) i).says ≡ true → (header_of (P.step (after P w is) i).bytes).subnet ≡ sub → reached_in (P.step (after P w is) i).coordinator (P.step (after P w is) i).nodes (P.step (after P w is) i).says ≡ named → eqb sub named ≡ false → OnTheWire P → ⊥
+  missent i sub named sends taken goes tells apart s = eqb-false sub named apart (sym goes ∙ (s k w f is i sends taken).subnet ∙ tells)
 
   -- a frame of another system is accepted; it changes the misses of a position
   pub heard_others : (i : Input) → is_others (after P w is).coordinator.setup i ≡ true → is_accepted (P.step (after P w is) i).says ≡ true → is_accepted (reading (after P w is).coordinator.setup.subnet i.received) ≡ false → OthersUnheard P → ⊥
@@ -141,7 +144,7 @@ module _ {P : Panel} {k : ℕ} {w : World} (f : Fresh P k w) (is : List Input) w
   heard_old received none old other taken unread s = false≢true (sym unread ∙ sym (ap (λ (a : After). is_accepted a.says) (s.unheard k w f is none received 252 old other)) ∙ taken)
 
   -- one gets 24 in a wait in which one may answer
-  pub passed_by : (received : List ℕ) → is_accepted (P.step (after P w is) (quiet_with 252)).says ≡ true → may_answer (seen P w nothing is) ≡ true → (header_of received).subnet ≡ old_subnet → (P.step (after P w is) (frame_with received 252)).says ≡ refuses OtherSubnet → OldBoards P → ⊥
+  pub passed_by : (received : List ℕ) → is_accepted (P.step (after P w is) (quiet_with 252)).says ≡ true → may_answer (seen P w nothing is) ≡ true → (header_of received).subnet ≡ old_subnet → (P.step (after P w is) (frame_with received 252)).says ≡ refuses OtherSubnet → OldHeard P → ⊥
   passed_by received waits may old says s = s.heard k w f is 252 waits may received old says
 
   -- more than fifteen types are listed with a 1.0 board

@@ -11,11 +11,11 @@ use Rattle.series.specs.StoredIndex.{StoredIndex}
 use Rattle.series.specs.Exchange.{OneJoin, Seldom}
 use Rattle.series.specs.Wire.{OnTheWire}
 use Rattle.series.specs.Others.{OthersUnheard}
-use Rattle.series.specs.OldBoards.{OldBoards}
-use Rattle.wrong.specs.Wrong.{stepping, quiet_does_nothing, quiet_changes_nothing, quiet_never_drops, offers_one_board, only_looks_busy, waits_for_ever, counts_since_joining, restarts_round, hears_anyone, hears_others, spares_for_others, lists_twice, keeps_type, keeps_version, whole_lists, stands_only, keeps_indexes, counts_from_one, joins_twice, joins_inside, misses_in_assign, discovers_again, tells_another, takes_no_setup, takes_no_join}
-use Rattle.wrong.specs.Trial.{before, begun, one, two, turn, quiet, misses_twice, answers_between, another_between, other_request, old_request, other_between, listed, echo, eighteen_quiets, offered_once, joins_again, came_back_old, retyped, retyped_below, retyped_listed, dropped_below, joined_below, asks_for_type, first_round, nine_lists, both_join, both_old, old_and_later, two_offers, joined_once, listed_once, discover, second_found, found_below, first_found, found_retyped, two_discoveries}
+use Rattle.series.specs.OldBoards.{OldBoards, OldHeard}
+use Rattle.wrong.specs.Wrong.{stepping, quiet_does_nothing, quiet_changes_nothing, quiet_never_drops, offers_one_board, only_looks_busy, waits_for_ever, counts_since_joining, restarts_round, hears_anyone, hears_others, spares_for_others, deaf_to_old, speaks_in_ours, takes_every_join, lists_twice, keeps_type, keeps_version, whole_lists, stands_only, keeps_indexes, counts_from_one, joins_twice, joins_inside, misses_in_assign, discovers_again, tells_another, takes_no_setup, takes_no_join}
+use Rattle.wrong.specs.Trial.{before, begun, one, two, sixteen, sixteen_types, joins_old, turn, quiet, misses_twice, answers_between, another_between, other_request, old_request, other_between, listed, echo, eighteen_quiets, offered_once, joins_again, came_back_old, retyped, retyped_below, retyped_listed, dropped_below, joined_below, asks_for_type, first_round, nine_lists, both_join, both_old, old_and_later, two_offers, joined_once, listed_once, discover, second_found, found_below, first_found, found_retyped, two_discoveries}
 use Rattle.wrong.proofs.Opened.{opened}
-use Rattle.wrong.proofs.Laws.{outstays, leaves_early, leaves_unasked, passed_over, starved, stuck, lingers, alike, mistyped, misversioned, miscounted, mistold, miscarried, misforwarded, misacknowledged, mislisted, misindexed, misrouted, joins_again_lem, joins_inside_lem, discovers_often, misdirected, heard_others, spared_by_others, heard_old, untold, turned_away, not_started}
+use Rattle.wrong.proofs.Laws.{outstays, leaves_early, leaves_unasked, passed_over, starved, stuck, lingers, alike, mistyped, misversioned, miscounted, mistold, miscarried, misforwarded, misacknowledged, mislisted, misindexed, misrouted, joins_again_lem, joins_inside_lem, discovers_often, misdirected, heard_others, spared_by_others, heard_old, passed_by, missent, crowded, untold, turned_away, not_started}
 
 -- a fresh start with one address, with two, and with sixteen
 from_one : {step : World → Input → After} → Fresh (stepping step) 1 (begun one)
@@ -137,7 +137,7 @@ unfolding opened
 hears_others_old = heard_old from_one offered_once old_request.received refl refl refl refl refl
 
 -- a 1.0 board that answers in its subnet is not heard
-pub deaf_to_old_refuted : OldBoards deaf_to_old → ⊥
+pub deaf_to_old_refuted : OldHeard deaf_to_old → ⊥
 unfolding opened
 deaf_to_old_refuted = passed_by from_one (joins_old 2 7 ∷ turn ∷ []) old_request.received refl refl refl refl
 

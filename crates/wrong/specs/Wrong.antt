@@ -2,7 +2,7 @@
 use Rattle.std.specs.Prelude.{ℕ, ◌+◌, Bool, ◌&&◌, not, List, [], ◌∷◌, map, length, get_or, eqb}
 use Rattle.ground.specs.Choose.{choose}
 use Rattle.ground.specs.Below.{up_from}
-use Rattle.refusal.specs.declared.Refusal.TheVariants.{NotWaiting, BadPool, Full}
+use Rattle.refusal.specs.declared.Refusal.TheVariants.{NotWaiting, BadPool, Full, OtherSubnet}
 use Rattle.frame.specs.declared.Header.{Header}
 use Rattle.frame.specs.Frame.{header_of, frame_of}
 use Rattle.board.specs.declared.Node.{Node}
@@ -13,6 +13,7 @@ use Rattle.board.specs.Columns.{kinds_of, versions_of}
 use Rattle.board.specs.Wanted.{lowest_of}
 use Rattle.board.specs.Index.{indexed, numbered}
 use Rattle.board.specs.Change.{joined_node, owe_all, relisted}
+use Rattle.setup.specs.Setup.{old_subnet}
 use Rattle.nodelist.specs.Condensed.{standing_to}
 use Rattle.nodelist.specs.List.{node_list}
 use Rattle.coordinator.specs.declared.Coordinator.{Coordinator}
@@ -26,6 +27,7 @@ use Rattle.steps.specs.declared.Event.{Event}
 use Rattle.steps.specs.declared.Event.TheVariants.{Join, Turn, Frame, Quiet, Discover}
 use Rattle.steps.specs.After.{After, refused, accepted, waits, rests}
 use Rattle.steps.specs.Hear.{hear}
+use Rattle.steps.specs.Join.{joined_as}
 use Rattle.steps.specs.Turn.{due_offer, sent}
 use Rattle.steps.specs.Receive.{payload, taken_in}
 use Rattle.steps.specs.Quiet.{missed_at}

@@ -1,0 +1,11 @@
+-- `display::refused` meets its contract.
+use borrow.Author.Tests.{ne_eqb}
+use mathlib.Core.Path.{refl}
+use Rattle.ground.specs.Choose.{choose}
+use Rattle.refusal.proofs.Numbers.{not_zero}
+use Rattle.display.specs.Numbers.{display_numbers, diagnostics_numbers}
+use Rattle.display.proofs.refused.Goals as goal
+
+pub returns : goal.returns
+unfolding display_numbers diagnostics_numbers choose
+returns c = rw (c.number.ensures, ne_eqb _ 0 (not_zero c.args.refusal)) (refl, refl)

@@ -1,0 +1,32 @@
+-- `receive::receive` meets its contract: the refusals of the reader, then what a good frame gets.
+use native.Mathlib.Omega.{arith}
+use Prim.Native.Nat.{ℕ}
+use mathlib.Core.Path.{ap, ◌∙◌}
+use Rattle.frame.specs.Frame.{reading}
+use Rattle.frame.proofs.Told.{read_frame}
+use Rattle.change.proofs.Making.{shows_as}
+use Rattle.receive.proofs.Leaving.{shows_refused, read_seen, received_unread, received_read, part_is, brings_read}
+use Rattle.receive.proofs.receive.Goals as goal
+
+pub overflow_add-end : goal.overflow_add-end
+overflow_add-end c =
+    let read = read_frame _ _ c.in-Frame.is c.read.ensures in
+    omega (arith, read.count, read.bytes.small)
+
+pub slice_bounds-listened-end : goal.slice_bounds-listened-end
+slice_bounds-listened-end c =
+    let read = read_frame _ _ c.in-Frame.is c.read.ensures in
+    omega (arith, read.count, read.bytes.long)
+
+pub returns-in-Frame : goal.returns-in-Frame
+returns-in-Frame c =
+    let args = c.args in
+    let call = c.read in
+    let subnet = c.read_in in
+    let read = read_frame _ _ c.in-Frame.is call.ensures in
+    λ co t s k. shows_as args.out.now _ (received_read s args.received.now _ (call.ensures ∙ ap (λ (n : ℕ). reading n args.received.now) (subnet.ensures ∙ read_seen s k.1 args.received.now)) c.in-Frame.is) ((rw (part_is read) at c.listened.ensures) args.received.now (brings_read read) co t s k)
+
+pub returns-in-Refused : goal.returns-in-Refused
+returns-in-Refused c =
+    let args = c.args in
+    λ co t s k. shows_refused args.received.now args.out.now co t c.in-Refused.refusal (received_unread s args.received.now _ (c.read.ensures ∙ ap (λ (n : ℕ). reading n args.received.now) (c.read_in.ensures ∙ read_seen s k.1 args.received.now)) c.in-Refused.is) c.refusing.ensures
