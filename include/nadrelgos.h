@@ -1,18 +1,18 @@
 /*
  * Nadrelgos: the coordinator of a ClimateTalk CT-485 bus, for firmware in C (C11) or C++ (C++11).
  *
- * The archive libpanel.a, which `rt staticlib panel` proves and writes, has nadrelgos_setup, nadrelgos_step and, for
- * tools, nadrelgos_list, _clear and _mark. A second one, libfinder.a (`rt staticlib finder`), has nadrelgos_find, for a
+ * The archive libpanel.a, which `tools/archive panel` proves and writes, has nadrelgos_setup, nadrelgos_step and, for
+ * tools, nadrelgos_list, _clear and _mark. A second one, libfinder.a (`tools/archive finder`), has nadrelgos_find, for a
  * host that cuts the line's bytes at a silence; a firmware that has whole frames from elsewhere need not link it. A
- * third one, libdisplay.a (`rt staticlib display`), reads and writes texts and faults for a display, a fourth one,
- * libencapsulation.a (`rt staticlib encapsulation`), messages inside messages, and a fifth one, libshared.a
- * (`rt staticlib shared`), keeps the shared data of boards. They are written in Rattle and proved to do what the
+ * third one, libdisplay.a (`tools/archive display`), reads and writes texts and faults for a display, a fourth one,
+ * libencapsulation.a (`tools/archive encapsulation`), messages inside messages, and a fifth one, libshared.a
+ * (`tools/archive shared`), keeps the shared data of boards. They are written in Rattle and proved to do what the
  * definitions under crates/ say, for every input; docs/PROMISES.md leads from each rule to its definition, its theorem
  * and its code. This header is not proved: it restates those definitions for whoever writes the firmware.
  * The archives are for x86-64; the assertions at the end stop a build whose records would be laid out otherwise. Of C's
  * library libpanel.a needs memcpy and memset and libencapsulation.a memcpy; the others need nothing. A call of
- * libpanel.a takes up to some 1.7 kilobytes of stack, one of libencapsulation.a up to 0.7, one of libshared.a less than
- * 0.1: `hosts/c/run stack` measures them.
+ * libpanel.a takes up to some 3.3 kilobytes of stack, one of libencapsulation.a up to 1.0, one of libshared.a up to 0.1:
+ * `hosts/c/run stack` measures them.
  *
  * WHO OWNS WHAT
  *   The host owns all memory: one coordinator record, forty node records, the buffers, and two images where it keeps

@@ -1,21 +1,17 @@
-# tools/kit.sh: the Rattle kit's compiler, linker, loader and C library, all for x86-64, and its emulator for another
-# processor. It is sourced, by a script that has a `die`, which says why and ends. Those that compile run at the root.
+# tools/kit.sh: the Rattle kit's compiler, linker, loader and C library, all for x86-64 on x86-64. It is sourced, by a script that has a
+# `die`, which says why and ends. Those that compile run at the root.
 # shellcheck shell=sh
 
 # the kit is where rt stands
 kit_rt=$(command -v rt) || die "rt, the Rattle kit's command, is not on the path"
-kit_tools=${RATTLE_HOME:-$(dirname "$(dirname "$(readlink -f "$kit_rt")")")}/on/$(uname -m)/toolchain
+kit_tools=$(dirname "$(dirname "$(readlink -f "$kit_rt")")")/toolchain
 kit_lib=$kit_tools/lib
 kit_loader=$kit_lib/ld-linux-x86-64.so.2
-[ -f "$kit_loader" ] || die "the kit has no loader for this machine, $(uname -m)"
-kit_emulator=$kit_tools/bin/qemu-x86_64
-[ -x "$kit_emulator" ] || kit_emulator=''
+[ -f "$kit_loader" ] || die "the kit has no loader, $kit_loader"
 kit_headers=''
 kit_under=''
 
-# The kit has no C headers: those of this machine's compiler serve. On Arm they are Arm's, and of what is used here nothing differs on x86-64: C's
-# own headers, and of POSIX's and Linux's the terminal's settings, poll, signals, clocks and the flags of open that are named (O_DIRECT, O_DIRECTORY,
-# O_NOFOLLOW, O_LARGEFILE and struct stat do differ).
+# The kit has no C headers: those of this machine's compiler serve.
 kit_find_headers() {
     command -v gcc >/dev/null || apt-get install -y gcc libc6-dev >/dev/null || exit 2
     kit_headers=-nostdinc
@@ -47,7 +43,7 @@ kit_link() { # PROGRAM [FLAGS...] OBJECTS... [ARCHIVES...]
         "$kit_lib/libc.so.6" "$kit_lib/libc_nonshared.a" "$kit_lib/libgcc.a" "$kit_lib/crtendS.o" "$kit_lib/crtn.o"
 }
 
-# A tool of Debian's binutils for x86-64 code, whatever the processor.
+# A tool of Debian's binutils for x86-64 code.
 kit_binutil() { # TOOL [WORDS...]
     kit_tool=x86_64-linux-gnu-$1
     shift
@@ -55,21 +51,16 @@ kit_binutil() { # TOOL [WORDS...]
     "$kit_tool" "$@"
 }
 
-# Whether programs run under the emulator, so that their times say nothing.
-kit_emulates() {
-    [ -n "$kit_emulator" ]
-}
-
-# Runs a program in place of the shell. Where kit_under is set it runs under that tool, as in
+# Runs a program in place of the shell, with the kit's loader and C library. Where kit_under is set it runs under that tool, as in
 # kit_under='valgrind --tool=callgrind' kit_run PROGRAM
 kit_exec() { # PROGRAM [WORDS...]
     # shellcheck disable=SC2086 # words
-    exec $kit_under ${kit_emulator:+"$kit_emulator"} "$kit_loader" --library-path "$kit_lib" "$@"
+    exec $kit_under "$kit_loader" --library-path "$kit_lib" "$@"
 }
 
 # Prints the command that runs a program, a word to a line.
 kit_words() { # PROGRAM [WORDS...]
-    printf '%s\n' ${kit_emulator:+"$kit_emulator"} "$kit_loader" --library-path "$kit_lib" "$@"
+    printf '%s\n' "$kit_loader" --library-path "$kit_lib" "$@"
 }
 
 # Runs a program, and goes on.

@@ -12,7 +12,8 @@ import glob
 import re
 import sys
 
-TOKEN = re.compile(r"[A-Za-z_ℕ][\w'ℕ-]*")
+# a number in hex is no word
+TOKEN = re.compile(r"(?<!\w)[A-Za-z_ℕ][\w'ℕ-]*")
 DECLARED = re.compile(r"^\s*(?:(?:abbrev|unfoldable|pub|ruleset|record|data|module) )*([^\s:(){}\[\],]+)\s*(?:\{[^}]*\}\s*)*(?:\([^)]*\)\s*)*:(?!=)")
 RULESET = re.compile(r"^\s*(?:pub )?ruleset ([^\s=]+)")
 BACKQUOTED = re.compile(r"`[^`\n]*`")
@@ -105,7 +106,7 @@ def main():
         text = read(path)
         if path.endswith(".rt"):
             # a dash in code takes away
-            new = re.sub(r"[A-Za-z_][A-Za-z0-9_]*", lambda found: turned(found[0]), text)
+            new = re.sub(r"(?<!\w)[A-Za-z_][A-Za-z0-9_]*", lambda found: turned(found[0]), text)
         else:
             new = turned(text)
         if new != text:
