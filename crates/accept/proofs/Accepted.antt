@@ -7,6 +7,7 @@ use mathlib.Core.Logic.{◌⊎◌, inl, inr, ◌↔◌}
 use mathlib.Core.Bool.{Bool, true, false, ◌&&◌, not, false≢true}
 use mathlib.Core.List.{List, [], ◌∷◌}
 use lib.Dec.{eqb, ltb}
+use Rattle.std.specs.Prelude.{Result, Ok, Err}
 use borrow.Author.Tests.{eqb-true, eq-eqb, ltb-false, le-ltb, not-true, not-false}
 use Rattle.ground.proofs.Choices.{and_left, and_right, both, or_left, or_right, either, not_yes, not_no}
 use Rattle.refusal.specs.declared.Refusal.{Refusal}
@@ -17,13 +18,13 @@ use Rattle.board.specs.declared.Node.{Node}
 use Rattle.nodelist.specs.List.{list_for, same_list}
 use Rattle.nodelist.proofs.Theorems.{same_yes, same_of}
 use Rattle.accept.specs.declared.Heard.{Heard}
-use Rattle.accept.specs.declared.Heard.TheVariants.{Ack, Echo, Refused}
+use Rattle.accept.specs.declared.Heard.TheVariants.{Ack, Echo}
 use Rattle.accept.specs.Accept.{ack_type, request_type, offer_types, list_types, forward_types, return_types, unexpected, heard_after_offer, heard_after_list, heard_after_forward, heard_after_return, told_heard}
 use Rattle.accept.proofs.Cases.{request_yes, request_only}
-use Rattle.accept.proofs.Exactly.{unexpected_exactly, by_method, by_type}
+use Rattle.accept.proofs.Exactly.{unexpected_exactly}
 
 -- a frame is accepted: no number is given
-abbrev pub Accepted : Heard → Type 0
+abbrev pub Accepted : Result Heard Refusal → Type 0
 Accepted h = (told_heard h).number ≡ 0
 
 -- 7 is not given: the type is in the list, and type 0 is an ACK
@@ -49,7 +50,7 @@ module _ (listed : Bool) (m : ℕ) (a : Bool) where
 -- after an offer: an ACK, or a request of type 1 to 127 with method 0 to 3
 pub accepted_after_offer : (m d : ℕ) (a : Bool) → Accepted (heard_after_offer m d a) ↔ (((m ≡ 0) × (a ≡ true)) ⊎ (((1 ≤ m) × (m ≤ 127)) × (d ≤ 3)))
 unfolding heard_after_offer
-accepted_after_offer m d a = Iff.trans (accepted_exactly Accepted Refused _ (by_method (ack_type m) (eqb d 0)) not_zero rules) (only, when)
+accepted_after_offer m d a = Iff.trans (accepted_exactly Accepted Err _ refl not_zero rules) (only, when)
   where
     rules : List (Bool × Refusal)
     rules = (unexpected (offer_types m) m a, UnexpectedType) ∷ (request_type m && ltb 3 d, BadMethod) ∷ []
@@ -70,7 +71,7 @@ accepted_after_offer m d a = Iff.trans (accepted_exactly Accepted Refused _ (by_
 pub accepted_after_list : (m version internal : ℕ) (t : List Node) (payload : List ℕ) → Accepted (heard_after_list m (same_list version internal t payload)) ↔ ((m ≡ 148) × (payload ≡ list_for version internal t))
 unfolding heard_after_list
 accepted_after_list m version internal t payload =
-    Iff.trans (accepted_exactly Accepted Refused Echo refl not_zero ((not (list_types m), UnexpectedType) ∷ (not (same_list version internal t payload), BadEcho) ∷ [])) (
+    Iff.trans (accepted_exactly Accepted Err (Ok Echo) refl not_zero ((not (list_types m), UnexpectedType) ∷ (not (same_list version internal t payload), BadEcho) ∷ [])) (
       (λ h. (eqb-true m 148 (not-false (list_types m) h.0), same_yes (list_for version internal t) payload (not-false (same_list version internal t payload) h.1.0))),
       (λ h. (not_no (list_types m) (eq-eqb m 148 h.0), (not_no (same_list version internal t payload) (same_of (list_for version internal t) payload h.1), tt))),
     )
@@ -78,7 +79,7 @@ accepted_after_list m version internal t payload =
 -- after a forward: at most one ACK, and the response, type = request + 128
 pub accepted_after_forward : (m q : ℕ) (a d : Bool) → Accepted (heard_after_forward m q a d) ↔ (((m ≡ 0) × ((a ≡ true) × (d ≡ false))) ⊎ (m ≡ q + 128))
 unfolding heard_after_forward
-accepted_after_forward m q a d = Iff.trans (accepted_exactly Accepted Refused _ (by_type (ack_type m)) not_zero ((unexpected (forward_types q d m) m a, UnexpectedType) ∷ [])) (only, when)
+accepted_after_forward m q a d = Iff.trans (accepted_exactly Accepted Err _ refl not_zero ((unexpected (forward_types q d m) m a, UnexpectedType) ∷ [])) (only, when)
   where
     only : Passed ((unexpected (forward_types q d m) m a, UnexpectedType) ∷ []) → ((m ≡ 0) × ((a ≡ true) × (d ≡ false))) ⊎ (m ≡ q + 128)
     only (e, t) = go (either (ack_type m && not d) (eqb m (q + 128)) (expected (forward_types q d m) m a e).0)
@@ -94,7 +95,7 @@ accepted_after_forward m q a d = Iff.trans (accepted_exactly Accepted Refused _ 
 -- after a return: an ACK
 pub accepted_after_return : (m : ℕ) (a : Bool) → Accepted (heard_after_return m a) ↔ ((m ≡ 0) × (a ≡ true))
 unfolding heard_after_return
-accepted_after_return m a = Iff.trans (accepted_exactly Accepted Refused Ack refl not_zero ((unexpected (return_types m) m a, UnexpectedType) ∷ [])) (only, when)
+accepted_after_return m a = Iff.trans (accepted_exactly Accepted Err (Ok Ack) refl not_zero ((unexpected (return_types m) m a, UnexpectedType) ∷ [])) (only, when)
   where
     only : Passed ((unexpected (return_types m) m a, UnexpectedType) ∷ []) → (m ≡ 0) × (a ≡ true)
     only (e, t) = let z : m ≡ 0 = eqb-true m 0 (expected (return_types m) m a e).0 in (z, (expected (return_types m) m a e).1 z)

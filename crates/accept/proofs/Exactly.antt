@@ -7,21 +7,19 @@ use mathlib.Core.Bool.{Bool, true, false, ◌&&◌, not, false≢true}
 use mathlib.Core.List.{List, [], ◌∷◌}
 use native.Mathlib.Omega.{arith}
 use lib.Dec.{eqb, ltb}
+use Rattle.std.specs.Prelude.{Ok, Err}
 use borrow.Author.Tests.{eqb-true, eq-eqb, ne_eqb, ltb-true, lt-ltb, not-true, not-false}
 use Rattle.ground.specs.Choose.{choose}
 use Rattle.ground.proofs.Choices.{and_left, and_right, both, or_left, or_right, either, not_yes, not_no}
 use Rattle.refusal.specs.Refusal.{number_of, ruled}
 use Rattle.refusal.specs.declared.Refusal.{Refusal}
 use Rattle.refusal.specs.declared.Refusal.TheVariants.{UnexpectedType, BadEcho, BadMethod}
-use Rattle.refusal.proofs.Numbers.{not_zero, same_refused}
-use Rattle.refusal.proofs.Rules.{refused_first, refused_later}
 use Rattle.board.specs.declared.Node.{Node}
 use Rattle.nodelist.specs.List.{list_for, same_list}
 use Rattle.nodelist.proofs.Theorems.{same_yes, same_of}
-use Rattle.accept.specs.declared.Heard.{Heard}
-use Rattle.accept.specs.declared.Heard.TheVariants.{Ack, Echo, Deliver, Route, Answer, Refused}
-use Rattle.accept.specs.Accept.{ack_type, request_type, offer_types, list_types, forward_types, return_types, unexpected, heard_after_offer, heard_after_list, heard_after_forward, heard_after_return, told_heard}
-use Rattle.accept.proofs.Cases.{request_yes, request_only, other_type}
+use Rattle.accept.specs.declared.Heard.TheVariants.{Ack, Echo, Deliver, Route}
+use Rattle.accept.specs.Accept.{ack_type, request_type, offer_types, list_types, forward_types, return_types, unexpected, heard_after_offer, heard_after_list, heard_after_forward, heard_after_return}
+use Rattle.accept.proofs.Cases.{err_first, err_later, request_yes, request_only, other_type}
 
 -- the two clauses of number 7
 pub unexpected_exactly : (listed : Bool) (m : ℕ) (a : Bool) → (unexpected listed m a ≡ true) ↔ ((listed ≡ false) ⊎ ((m ≡ 0) × (a ≡ false)))
@@ -38,58 +36,40 @@ unexpected_exactly listed m a = (only, when)
     when (inl e) = or_left (not listed) (ack_type m && not a) (not_yes listed e)
     when (inr (z, e)) = or_right (not listed) (ack_type m && not a) (both (ack_type m) (not a) (eq-eqb m 0 z) (not_yes a e))
 
--- what the laws of rules ask: cases that refuse are apart by their refusal, and a case that is taken refuses nothing
-apart : (r q : Refusal) → Refused r ≡ Refused q → r ≡ q
-apart r q e = same_refused r q (ap told_heard e)
-
-taken : (v : Heard) → (told_heard v).number ≡ 0 → (q : Refusal) → v ≡ Refused q → ⊥
-taken v z q e = not_zero q (sym (ap (λ (h : Heard). (told_heard h).number) e) ∙ z)
-
-pub by_method : (b c : Bool) → (told_heard (choose b Ack (choose c Deliver Route))).number ≡ 0
-unfolding choose
-by_method true c = refl
-by_method false true = refl
-by_method false false = refl
-
-pub by_type : (b : Bool) → (told_heard (choose b Ack Answer)).number ≡ 0
-unfolding choose
-by_type true = refl
-by_type false = refl
-
 -- 7: type not in the list for this wait, or type 0 that is no such ACK
-pub unexpected_after_offer : (m d : ℕ) (a : Bool) → (heard_after_offer m d a ≡ Refused UnexpectedType) ↔ ((offer_types m ≡ false) ⊎ ((m ≡ 0) × (a ≡ false)))
+pub unexpected_after_offer : (m d : ℕ) (a : Bool) → (heard_after_offer m d a ≡ Err UnexpectedType) ↔ ((offer_types m ≡ false) ⊎ ((m ≡ 0) × (a ≡ false)))
 unfolding heard_after_offer
 unexpected_after_offer m d a =
-    Iff.trans (refused_first Refused _ apart (taken _ (by_method (ack_type m) (eqb d 0))) (unexpected (offer_types m) m a) UnexpectedType ((request_type m && ltb 3 d, BadMethod) ∷ []) ((λ e. omega (arith, ap number_of e)), tt))
+    Iff.trans (err_first _ (unexpected (offer_types m) m a) UnexpectedType ((request_type m && ltb 3 d, BadMethod) ∷ []) ((λ e. omega (arith, ap number_of e)), tt))
     (unexpected_exactly (offer_types m) m a)
 
-pub unexpected_after_list : (m : ℕ) (s : Bool) → (heard_after_list m s ≡ Refused UnexpectedType) ↔ (list_types m ≡ false)
+pub unexpected_after_list : (m : ℕ) (s : Bool) → (heard_after_list m s ≡ Err UnexpectedType) ↔ (list_types m ≡ false)
 unfolding heard_after_list
 unexpected_after_list m s =
-    Iff.trans (refused_first Refused _ apart (taken Echo refl) (not (list_types m)) UnexpectedType ((not s, BadEcho) ∷ []) ((λ e. omega (arith, ap number_of e)), tt))
+    Iff.trans (err_first Echo (not (list_types m)) UnexpectedType ((not s, BadEcho) ∷ []) ((λ e. omega (arith, ap number_of e)), tt))
     (not-true (list_types m), not_yes (list_types m))
 
-pub unexpected_after_forward : (m q : ℕ) (a d : Bool) → (heard_after_forward m q a d ≡ Refused UnexpectedType) ↔ ((forward_types q d m ≡ false) ⊎ ((m ≡ 0) × (a ≡ false)))
+pub unexpected_after_forward : (m q : ℕ) (a d : Bool) → (heard_after_forward m q a d ≡ Err UnexpectedType) ↔ ((forward_types q d m ≡ false) ⊎ ((m ≡ 0) × (a ≡ false)))
 unfolding heard_after_forward
 unexpected_after_forward m q a d =
-    Iff.trans (refused_first Refused _ apart (taken _ (by_type (ack_type m))) (unexpected (forward_types q d m) m a) UnexpectedType [] tt)
+    Iff.trans (err_first _ (unexpected (forward_types q d m) m a) UnexpectedType [] tt)
     (unexpected_exactly (forward_types q d m) m a)
 
-pub unexpected_after_return : (m : ℕ) (a : Bool) → (heard_after_return m a ≡ Refused UnexpectedType) ↔ ((return_types m ≡ false) ⊎ ((m ≡ 0) × (a ≡ false)))
+pub unexpected_after_return : (m : ℕ) (a : Bool) → (heard_after_return m a ≡ Err UnexpectedType) ↔ ((return_types m ≡ false) ⊎ ((m ≡ 0) × (a ≡ false)))
 unfolding heard_after_return
 unexpected_after_return m a =
-    Iff.trans (refused_first Refused Ack apart (taken Ack refl) (unexpected (return_types m) m a) UnexpectedType [] tt) (unexpected_exactly (return_types m) m a)
+    Iff.trans (err_first Ack (unexpected (return_types m) m a) UnexpectedType [] tt) (unexpected_exactly (return_types m) m a)
 
 -- so a second ACK after a forward gets 7
-pub second_ack : (q : ℕ) (a : Bool) → heard_after_forward 0 q a true ≡ Refused UnexpectedType
+pub second_ack : (q : ℕ) (a : Bool) → heard_after_forward 0 q a true ≡ Err UnexpectedType
 second_ack q a = (unexpected_after_forward 0 q a true).1 (inl (ne_eqb 0 (q + 128) (λ e. omega arith)))
 
 -- 8: after a list, 0x94 with another payload
-pub bad_echo_after_list : (m version internal : ℕ) (t : List Node) (payload : List ℕ) → (heard_after_list m (same_list version internal t payload) ≡ Refused BadEcho) ↔ ((m ≡ 148) × (payload ≡ list_for version internal t → ⊥))
+pub bad_echo_after_list : (m version internal : ℕ) (t : List Node) (payload : List ℕ) → (heard_after_list m (same_list version internal t payload) ≡ Err BadEcho) ↔ ((m ≡ 148) × (payload ≡ list_for version internal t → ⊥))
 unfolding heard_after_list
 bad_echo_after_list m version internal t payload =
-    Iff.trans (refused_later Refused Echo apart (taken Echo refl) (not (list_types m)) UnexpectedType ((not (same_list version internal t payload), BadEcho) ∷ []) BadEcho (λ e. omega (arith, ap number_of e)))
-    (Iff.and (of_type, as_type) (Iff.trans (refused_first Refused Echo apart (taken Echo refl) (not (same_list version internal t payload)) BadEcho [] tt) (other, as_other)))
+    Iff.trans (err_later Echo (not (list_types m)) UnexpectedType ((not (same_list version internal t payload), BadEcho) ∷ []) BadEcho (λ e. omega (arith, ap number_of e)))
+    (Iff.and (of_type, as_type) (Iff.trans (err_first Echo (not (same_list version internal t payload)) BadEcho [] tt) (other, as_other)))
   where
     of_type : not (list_types m) ≡ false → m ≡ 148
     of_type e = eqb-true m 148 (not-false (list_types m) e)
@@ -108,23 +88,20 @@ bad_echo_after_list m version internal t payload =
         go false e = refl
 
 -- 9: after an offer, a request with method above 3
-pub bad_method_after_offer : (m d : ℕ) (a : Bool) → (heard_after_offer m d a ≡ Refused BadMethod) ↔ (((1 ≤ m) × (m ≤ 127)) × (3 < d))
+pub bad_method_after_offer : (m d : ℕ) (a : Bool) → (heard_after_offer m d a ≡ Err BadMethod) ↔ (((1 ≤ m) × (m ≤ 127)) × (3 < d))
 unfolding heard_after_offer
 bad_method_after_offer m d a =
-    Iff.trans (refused_later Refused _ apart value (unexpected (offer_types m) m a) UnexpectedType rules BadMethod (λ e. omega (arith, ap number_of e))) (only, when)
+    Iff.trans (err_later _ (unexpected (offer_types m) m a) UnexpectedType rules BadMethod (λ e. omega (arith, ap number_of e))) (only, when)
   where
-    value : (q : Refusal) → choose (ack_type m) Ack (choose (eqb d 0) Deliver Route) ≡ Refused q → ⊥
-    value = taken _ (by_method (ack_type m) (eqb d 0))
-
     rules : List (Bool × Refusal)
     rules = (request_type m && ltb 3 d, BadMethod) ∷ []
 
-    only : (unexpected (offer_types m) m a ≡ false) × (ruled rules Refused (choose (ack_type m) Ack (choose (eqb d 0) Deliver Route)) ≡ Refused BadMethod) → ((1 ≤ m) × (m ≤ 127)) × (3 < d)
+    only : (unexpected (offer_types m) m a ≡ false) × (ruled rules Err (Ok (choose (ack_type m) Ack (choose (eqb d 0) Deliver Route))) ≡ Err BadMethod) → ((1 ≤ m) × (m ≤ 127)) × (3 < d)
     only h = (request_only m (and_left (request_type m) (ltb 3 d) e), ltb-true 3 d (and_right (request_type m) (ltb 3 d) e))
       where
         e : (request_type m && ltb 3 d) ≡ true
-        e = (refused_first Refused _ apart value (request_type m && ltb 3 d) BadMethod [] tt).0 h.1
+        e = (err_first _ (request_type m && ltb 3 d) BadMethod [] tt).0 h.1
 
-    when : ((1 ≤ m) × (m ≤ 127)) × (3 < d) → (unexpected (offer_types m) m a ≡ false) × (ruled rules Refused (choose (ack_type m) Ack (choose (eqb d 0) Deliver Route)) ≡ Refused BadMethod)
+    when : ((1 ≤ m) × (m ≤ 127)) × (3 < d) → (unexpected (offer_types m) m a ≡ false) × (ruled rules Err (Ok (choose (ack_type m) Ack (choose (eqb d 0) Deliver Route))) ≡ Err BadMethod)
     when ((l, k), g) =
-        (rw (other_type m l, request_yes m l k) refl, (refused_first Refused _ apart value (request_type m && ltb 3 d) BadMethod [] tt).1 (both (request_type m) (ltb 3 d) (request_yes m l k) (lt-ltb 3 d g)))
+        (rw (other_type m l, request_yes m l k) refl, (err_first _ (request_type m && ltb 3 d) BadMethod [] tt).1 (both (request_type m) (ltb 3 d) (request_yes m l k) (lt-ltb 3 d g)))

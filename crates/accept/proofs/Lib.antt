@@ -1,5 +1,4 @@
 pub mod Cases
-pub mod Told
 pub mod Exactly
 pub mod Accepted
 pub mod Acks

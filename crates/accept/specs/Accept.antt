@@ -1,12 +1,13 @@
 -- Which received frame a wait takes (01, "Steps", "Frame"), and the numbers 7, 8 and 9 (01, "Numbers").
-use Rattle.std.specs.Prelude.{ℕ, ◌+◌, Bool, ◌&&◌, ◌||◌, not, List, [], ◌∷◌, length, eqb, leb, ltb}
+use Rattle.std.specs.Prelude.{ℕ, ◌+◌, Bool, ◌&&◌, ◌||◌, not, List, [], ◌∷◌, length, eqb, leb, ltb, Result, Ok, Err}
 use Rattle.ground.specs.Choose.{choose}
-use Rattle.refusal.specs.Refusal.{Told, refuses, gives, ruled}
+use Rattle.refusal.specs.Refusal.{Told, says, ruled}
+use Rattle.refusal.specs.declared.Refusal.{Refusal}
 use Rattle.refusal.specs.declared.Refusal.TheVariants.{UnexpectedType, BadEcho, BadMethod}
 use Rattle.frame.specs.Frame.{byte}
 use Rattle.word.specs.Words.{word_at}
 use Rattle.accept.specs.declared.Heard.{Heard}
-use Rattle.accept.specs.declared.Heard.TheVariants.{Ack, Echo, Deliver, Route, Answer, Refused}
+use Rattle.accept.specs.declared.Heard.TheVariants.{Ack, Echo, Deliver, Route, Answer}
 
 -- the payload of an ACK: 17 bytes, code 6, then the sender's MAC, here the record's (003, Table 49; 01, "An ACK has the form of 6.1's response table")
 unfoldable pub is_ack : ℕ → List ℕ → Bool
@@ -45,31 +46,34 @@ abbrev pub unexpected : Bool → ℕ → Bool → Bool
 unexpected listed message ack = not listed || (ack_type message && not ack)
 
 -- after an offer: 7, then 9 for a request with method above 3; else an ACK, or a request for the host by method 0 and to be routed by 1 to 3 (01, "Frame", "Numbers")
-unfoldable pub heard_after_offer : ℕ → ℕ → Bool → Heard
+unfoldable pub heard_after_offer : ℕ → ℕ → Bool → Result Heard Refusal
 heard_after_offer message method ack =
-    ruled ((unexpected (offer_types message) message ack, UnexpectedType) ∷ (request_type message && ltb 3 method, BadMethod) ∷ []) Refused
-    (choose (ack_type message) Ack (choose (eqb method 0) Deliver Route))
+    ruled ((unexpected (offer_types message) message ack, UnexpectedType) ∷ (request_type message && ltb 3 method, BadMethod) ∷ []) Err
+    (Ok (choose (ack_type message) Ack (choose (eqb method 0) Deliver Route)))
 
 -- after a list: 7, then 8 for another payload than the list sent; else its echo (01, "Frame", "Numbers")
-unfoldable pub heard_after_list : ℕ → Bool → Heard
+unfoldable pub heard_after_list : ℕ → Bool → Result Heard Refusal
 heard_after_list message same =
-    ruled ((not (list_types message), UnexpectedType) ∷ (not same, BadEcho) ∷ []) Refused Echo
+    ruled ((not (list_types message), UnexpectedType) ∷ (not same, BadEcho) ∷ []) Err (Ok Echo)
 
 -- after a forward: 7; else an ACK, or the response (01, "Frame", "Numbers")
-unfoldable pub heard_after_forward : ℕ → ℕ → Bool → Bool → Heard
+unfoldable pub heard_after_forward : ℕ → ℕ → Bool → Bool → Result Heard Refusal
 heard_after_forward message request ack acked =
-    ruled ((unexpected (forward_types request acked message) message ack, UnexpectedType) ∷ []) Refused
-    (choose (ack_type message) Ack Answer)
+    ruled ((unexpected (forward_types request acked message) message ack, UnexpectedType) ∷ []) Err
+    (Ok (choose (ack_type message) Ack Answer))
 
 -- after a return: 7; else an ACK (01, "Frame", "Numbers")
-unfoldable pub heard_after_return : ℕ → Bool → Heard
-heard_after_return message ack = ruled ((unexpected (return_types message) message ack, UnexpectedType) ∷ []) Refused Ack
+unfoldable pub heard_after_return : ℕ → Bool → Result Heard Refusal
+heard_after_return message ack = ruled ((unexpected (return_types message) message ack, UnexpectedType) ∷ []) Err (Ok Ack)
 
--- what each case says: the refusal's number alone (01, "Numbers"), or number 0 and the case's place among those that are taken
-abbrev pub told_heard : Heard → Told
-told_heard Ack = gives (1 ∷ [])
-told_heard Echo = gives (2 ∷ [])
-told_heard Deliver = gives (3 ∷ [])
-told_heard Route = gives (4 ∷ [])
-told_heard Answer = gives (5 ∷ [])
-told_heard (Refused r) = refuses r
+-- the place of each case among those that are taken
+abbrev pub heard_place : Heard → ℕ
+heard_place Ack = 1
+heard_place Echo = 2
+heard_place Deliver = 3
+heard_place Route = 4
+heard_place Answer = 5
+
+-- what is said of a frame: the refusal's number alone (01, "Numbers"), or number 0 and the case's place
+abbrev pub told_heard : Result Heard Refusal → Told
+told_heard = says (λ h. heard_place h ∷ [])

@@ -4,13 +4,13 @@
 #![tactic(auto)]
 
 ghost use Rattle.std.specs.Prelude.{◌≡◌};
-ghost use Rattle.accept.specs.Accept.{is_ack, ack_session, told_heard, heard_after_offer, heard_after_list, heard_after_forward, heard_after_return};
-ghost use Rattle.accept.specs.Replies.{is_discovery, is_identity, is_any_ack, is_assignment, told_reply, heard_in_search, heard_in_identify, heard_in_assign};
+ghost use Rattle.accept.specs.Accept.{is_ack, ack_session, heard_after_offer, heard_after_list, heard_after_forward, heard_after_return};
+ghost use Rattle.accept.specs.Replies.{is_discovery, is_any_ack, is_assignment, heard_in_search, heard_in_identify, heard_in_assign};
 
 use refusal::Refusal;
 
-// What a frame is to the wait that it comes in: an ACK, the list's echo, a request for the host, a request to be routed,
-// the response to a forward; or the reason why it is not taken.
+// What a frame that is taken is to the wait that it comes in: an ACK, the list's echo, a request for the host, a request to
+// be routed, the response to a forward.
 #[derive(Clone, Copy)]
 pub enum Heard {
     Ack,
@@ -18,28 +18,24 @@ pub enum Heard {
     Deliver,
     Route,
     Answer,
-    Refused(Refusal),
 }
 
-// What a frame is to a wait of the exchange by which a board joins: the discovery's response, an ACK from the address at
-// stake, the ID of who has it, the echo of its assignment; or the reason why it is not taken.
+// What a frame that is taken is to a wait of the exchange by which a board joins: the discovery's response, an ACK from the
+// address at stake, the ID of who has it, the echo of its assignment.
 #[derive(Clone, Copy)]
 pub enum Reply {
     Discovered,
     Present,
     Identified,
     Assigned,
-    Refused(Refusal),
 }
 
 // Whether the payload of a type 0 frame is the ACK of the board with this MAC.
+#[tactic(auto, unfolding(crate::specs::Accept::is_ack))]
 pub fn is_ack(payload: &[u8], mac: u64) -> bool
     ensures { result ≡ is_ack mac payload.now }
 {
-    if payload.len() != 17 {
-        return false;
-    }
-    (payload[0] == 6) & (word::word_at(payload, 1) == mac)
+    payload.len() == 17 && payload[0] == 6 && word::word_at(payload, 1) == mac
 }
 
 // The session that an ACK carries.
@@ -49,90 +45,65 @@ pub fn ack_session(payload: &[u8]) -> u64
     word::word_at(payload, 9)
 }
 
-// What a frame is after an offer.
-pub fn after_offer(message: u8, method: u8, ack: bool) -> Heard
-    ensures { told_heard result ≡ told_heard (heard_after_offer message method ack) }
+// What a frame is after an offer, or why it is not taken.
+#[tactic(auto, unfolding(ground::specs::Choose::choose, crate::specs::Accept::heard_after_offer))]
+pub fn after_offer(message: u8, method: u8, ack: bool) -> Result<Heard, Refusal>
+    ensures { result ≡ heard_after_offer message method ack }
 {
     match message {
-        0 => {
-            if ack {
-                Heard::Ack
-            } else {
-                Heard::Refused(Refusal::UnexpectedType)
-            }
-        }
+        0 if ack => Ok(Heard::Ack),
         1..=127 => match method {
-            0 => Heard::Deliver,
-            1..=3 => Heard::Route,
-            _ => Heard::Refused(Refusal::BadMethod),
+            0 => Ok(Heard::Deliver),
+            1..=3 => Ok(Heard::Route),
+            _ => Err(Refusal::BadMethod),
         },
-        _ => Heard::Refused(Refusal::UnexpectedType),
+        _ => Err(Refusal::UnexpectedType),
     }
 }
 
-// What a frame is after a list; `same` says that its payload is the list that was sent.
-pub fn after_list(message: u8, same: bool) -> Heard
-    ensures { told_heard result ≡ told_heard (heard_after_list message same) }
+// What a frame is after a list, or why it is not taken; `same` says that its payload is the list that was sent.
+#[tactic(auto, unfolding(ground::specs::Choose::choose, crate::specs::Accept::heard_after_list))]
+pub fn after_list(message: u8, same: bool) -> Result<Heard, Refusal>
+    ensures { result ≡ heard_after_list message same }
 {
     match message {
-        0x94 => {
-            if same {
-                Heard::Echo
-            } else {
-                Heard::Refused(Refusal::BadEcho)
-            }
-        }
-        _ => Heard::Refused(Refusal::UnexpectedType),
+        0x94 if same => Ok(Heard::Echo),
+        0x94 => Err(Refusal::BadEcho),
+        _ => Err(Refusal::UnexpectedType),
     }
 }
 
-// What a frame is after a request of this type was forwarded; `acked` says that an ACK came already.
-pub fn after_forward(message: u8, request: u8, ack: bool, acked: bool) -> Heard
-    ensures { told_heard result ≡ told_heard (heard_after_forward message request ack acked) }
+// What a frame is after a request of this type was forwarded, or why it is not taken; `acked` says that an ACK came already.
+#[tactic(auto, unfolding(ground::specs::Choose::choose, crate::specs::Accept::heard_after_forward))]
+pub fn after_forward(message: u8, request: u8, ack: bool, acked: bool) -> Result<Heard, Refusal>
+    ensures { result ≡ heard_after_forward message request ack acked }
 {
     match message {
-        0 => {
-            if ack & !acked {
-                Heard::Ack
-            } else {
-                Heard::Refused(Refusal::UnexpectedType)
-            }
-        }
-        128..=255 => {
-            if message - 128 == request {
-                Heard::Answer
-            } else {
-                Heard::Refused(Refusal::UnexpectedType)
-            }
-        }
-        _ => Heard::Refused(Refusal::UnexpectedType),
+        0 if ack && !acked => Ok(Heard::Ack),
+        128..=255 if message - 128 == request => Ok(Heard::Answer),
+        _ => Err(Refusal::UnexpectedType),
     }
 }
 
-// What a frame is after a return.
-pub fn after_return(message: u8, ack: bool) -> Heard
-    ensures { told_heard result ≡ told_heard (heard_after_return message ack) }
+// What a frame is after a return, or why it is not taken.
+#[tactic(auto, unfolding(ground::specs::Choose::choose, crate::specs::Accept::heard_after_return))]
+pub fn after_return(message: u8, ack: bool) -> Result<Heard, Refusal>
+    ensures { result ≡ heard_after_return message ack }
 {
     match message {
-        0 => {
-            if ack {
-                Heard::Ack
-            } else {
-                Heard::Refused(Refusal::UnexpectedType)
-            }
-        }
-        _ => Heard::Refused(Refusal::UnexpectedType),
+        0 if ack => Ok(Heard::Ack),
+        _ => Err(Refusal::UnexpectedType),
     }
 }
 
-// What a frame is in search.
-pub fn in_search(message: u8, payload: &[u8]) -> Reply
-    ensures { told_reply result ≡ told_reply (heard_in_search message payload.now) }
+// What a frame is in search, or why it is not taken.
+#[tactic(auto, unfolding(ground::specs::Choose::choose, crate::specs::Replies::heard_in_search))]
+pub fn in_search(message: u8, payload: &[u8]) -> Result<Reply, Refusal>
+    ensures { result ≡ heard_in_search message payload.now }
 {
-    if (message == 0xF9) & (payload.len() == 18) {
-        Reply::Discovered
-    } else {
-        Reply::Refused(Refusal::UnexpectedType)
+    match message {
+        0xF9 if payload.len() == 18 => Ok(Reply::Discovered),
+        _ => Err(Refusal::UnexpectedType),
     }
 }
 
@@ -140,50 +111,44 @@ pub fn in_search(message: u8, payload: &[u8]) -> Reply
 fn is_any_ack(message: u8, payload: &[u8]) -> bool
     ensures { result ≡ is_any_ack message payload.now }
 {
-    (message == 0) & is_ack(payload, word::word_at(payload, 1))
+    message == 0 && is_ack(payload, word::word_at(payload, 1))
 }
 
-// What a frame is in identify; `acked` says that an ACK came already.
-pub fn in_identify(message: u8, payload: &[u8], acked: bool) -> Reply
-    ensures { told_reply result ≡ told_reply (heard_in_identify message payload.now acked) }
+// What a frame is in identify, or why it is not taken; `acked` says that an ACK came already.
+#[tactic(auto, unfolding(ground::specs::Choose::choose, crate::specs::Replies::heard_in_identify))]
+pub fn in_identify(message: u8, payload: &[u8], acked: bool) -> Result<Reply, Refusal>
+    ensures { result ≡ heard_in_identify message payload.now acked }
 {
-    let ack = is_any_ack(message, payload) & !acked;
-    let identity = (message == 0xFB) & (payload.len() == 17);
-    if !(ack | identity) {
-        return Reply::Refused(Refusal::UnexpectedType);
-    }
-    if message == 0 {
-        Reply::Present
-    } else {
-        Reply::Identified
+    match message {
+        0 if is_any_ack(message, payload) && !acked => Ok(Reply::Present),
+        0xFB if payload.len() == 17 => Ok(Reply::Identified),
+        _ => Err(Refusal::UnexpectedType),
     }
 }
 
 // Whether a payload is Set Address's for this address, subnet, MAC and session.
+#[tactic(auto, unfolding(crate::specs::Replies::is_assignment))]
 pub fn is_assignment(payload: &[u8], address: u8, subnet: u8, mac: u64, session: u64) -> bool
     ensures { result ≡ is_assignment address subnet mac session payload.now }
 {
-    if payload.len() != 19 {
-        return false;
-    }
-    (payload[0] == address)
-        & ((payload[1] == subnet)
-            & ((word::word_at(payload, 2) == mac)
-                & ((word::word_at(payload, 10) == session) & (payload[18] == 1))))
+    payload.len() == 19
+        && payload[0] == address
+        && payload[1] == subnet
+        && word::word_at(payload, 2) == mac
+        && word::word_at(payload, 10) == session
+        && payload[18] == 1
 }
 
-// What a frame is in assign; `same` says that its payload is the one that was sent.
-pub fn in_assign(message: u8, same: bool) -> Reply
-    ensures { told_reply result ≡ told_reply (heard_in_assign message same) }
+// `after_list` has the same three arms; one function for both would take type and case as parameters, and be no shorter.
+
+// What a frame is in assign, or why it is not taken; `same` says that its payload is the one that was sent.
+#[tactic(auto, unfolding(ground::specs::Choose::choose, crate::specs::Replies::heard_in_assign))]
+pub fn in_assign(message: u8, same: bool) -> Result<Reply, Refusal>
+    ensures { result ≡ heard_in_assign message same }
 {
     match message {
-        0xFA => {
-            if same {
-                Reply::Assigned
-            } else {
-                Reply::Refused(Refusal::BadEcho)
-            }
-        }
-        _ => Reply::Refused(Refusal::UnexpectedType),
+        0xFA if same => Ok(Reply::Assigned),
+        0xFA => Err(Refusal::BadEcho),
+        _ => Err(Refusal::UnexpectedType),
     }
 }

@@ -1,8 +1,9 @@
 pub mod Positions
 pub mod LowestWanted
 pub mod Index
+pub mod Searches
 pub mod SameKinds
-pub mod Columns
+pub mod Column
 pub mod Types
 pub mod Versions
 pub mod NextListed

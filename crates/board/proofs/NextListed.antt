@@ -10,12 +10,14 @@ use lib.Dec.{ltb, leb}
 use borrow.Author.Tests.{lt-ltb, le-ltb, ltb-true, ltb-false, leb-true, leb-false}
 use Rattle.ground.specs.Below.{up_from, first_or}
 use Rattle.ground.proofs.Choices.{choose_yes, choose_no}
-use Rattle.ground.proofs.Firsts.{FirstCase, None, first_case, first_append, first_found, first_else, first_of_fewer}
+use Rattle.ground.proofs.Firsts.{FirstCase, None, first_case, first_append, first_of_fewer}
+use Rattle.std.proofs.Common.{Option, None as Absent, Some, unwrap_or}
+use Rattle.std.specs.Option.{MatchOption}
 use Rattle.board.specs.declared.Node.{Node}
 use Rattle.board.specs.Table.{listed_at}
 use Rattle.board.specs.Wanted.{highest_listed}
 use Rattle.board.specs.Round.{round, next_listed, distance, reached}
-use Rattle.board.proofs.LowestWanted.{highest_within, none_above, listed_zero}
+use Rattle.board.proofs.LowestWanted.{highest_within, none_above}
 
 -- the positions after a, whether or not a is cut at k
 rest : (k a b : ℕ) → b ≡ min a k → up_from (b + 1) (k - b) ≡ up_from (a + 1) (k - a)
@@ -31,14 +33,20 @@ looks : (p : ℕ → Bool) (k a : ℕ) → first_or 0 p (round k a) ≡ first_or
 unfolding round
 looks p k a = first_append 0 p (up_from (a + 1) (k - a)) (up_from 1 (min a k))
 
--- what the code gives: the first after a, and where that is 0 the first from 1 on
-pub next_after : (t : List Node) (k a top last r : ℕ) → top ≡ min k 40 → last ≡ min a top → r ≡ first_or 0 (listed_at t) (up_from (last + 1) (top - last)) → 0 < r → r ≡ next_listed t k a
+-- what the code gives: the first after a and, where there is none, the first from 1 on
+pub next_looked : (t : List Node) (k a : ℕ) {top last : ℕ} → top ≡ min k 40 → last ≡ min a top → (o r : Option ℕ) → ((d : ℕ) → unwrap_or o d ≡ first_or d (listed_at t) (up_from (last + 1) (top - last))) → MatchOption o ((d : ℕ) → unwrap_or r d ≡ first_or d (listed_at t) (up_from 1 (last - 0))) (λ p. r ≡ Some p) → unwrap_or r 0 ≡ next_listed t k a
 unfolding next_listed
-next_after t k a top last r et el er h = rw (← et) (er ∙ first_found _ (listed_at t) _ (omega (arith, er)) ∙ ap (first_or _ (listed_at t)) (rest top a last el) ∙ sym (looks (listed_at t) top a))
+next_looked t k a {top} {last} et el o r found cases = rw (← et) (go o refl cases ∙ sym (looks (listed_at t) top a))
+  where
+    later : ℕ
+    later = first_or 0 (listed_at t) (up_from 1 (min a top))
 
-pub next_round : (t : List Node) (k a top last s r : ℕ) → top ≡ min k 40 → last ≡ min a top → s ≡ first_or 0 (listed_at t) (up_from (last + 1) (top - last)) → s ≤ 0 → r ≡ first_or 0 (listed_at t) (up_from 1 last) → r ≡ next_listed t k a
-unfolding next_listed
-next_round t k a top last s r et el es h er = rw (← et) (first_else r (listed_at t) _ (listed_zero t) (omega (arith, es)) ∙ ap (first_or r (listed_at t)) (rest top a last el) ∙ rw (er, el) (sym (looks (listed_at t) top a)))
+    after : unwrap_or o later ≡ first_or later (listed_at t) (up_from (a + 1) (top - a))
+    after = found later ∙ ap (first_or later (listed_at t)) (rest top a last el)
+
+    go : (q : Option ℕ) → o ≡ q → MatchOption q ((d : ℕ) → unwrap_or r d ≡ first_or d (listed_at t) (up_from 1 (last - 0))) (λ p. r ≡ Some p) → unwrap_or r 0 ≡ first_or later (listed_at t) (up_from (a + 1) (top - a))
+    go Absent e h = h 0 ∙ ap (λ (n : ℕ). first_or 0 (listed_at t) (up_from 1 n)) (omega (arith, el)) ∙ ap (λ (q : Option ℕ). unwrap_or q later) (sym e) ∙ after
+    go (Some p) e h = ap (λ (q : Option ℕ). unwrap_or q 0) h ∙ ap (λ (q : Option ℕ). unwrap_or q later) (sym e) ∙ after
 
 -- going round from m to 1 in place of from k to 1 finds the same where none above m passes, wherever it begins, also above m
 round_of_fewer : (p : ℕ → Bool) (k m a : ℕ) → m ≤ k → ((i : ℕ) → m < i → i ≤ k → p i ≡ false) → first_or 0 p (round k a) ≡ first_or 0 p (round m a)

@@ -1,15 +1,14 @@
 -- The laws of the types that are listed: how many there are, how marks tell those met before, and the rule on them where a 1.0 board is listed.
 use Prim.Native.Nat.{ℕ, ◌+◌, ◌-◌, ◌≤◌, ◌<◌}
 use native.Mathlib.Omega.{arith}
-use native.Mathlib.Numerals.{add-one}
 use native.Mathlib.Decide.{ℕ_discrete}
 use mathlib.Core.Path.{◌≡◌, refl, sym, ap, ◌∙◌}
 use mathlib.Core.Bool.{Bool, true, false, ◌&&◌, ◌||◌, not, false≢true}
 use mathlib.Core.Logic.{◌⊎◌, inl, inr}
 use mathlib.Core.List.{List, [], ◌∷◌, ◌++◌, map}
 use lib.Dec.{eqb, ltb}
-use lib.ListN.{length, get_or, set, take, replicate, length-set, length-map}
-use lib.Seq.{get_or-set_same, get_or-set_other, take-suc}
+use lib.ListN.{length, get_or, set, replicate, length-set, length-map}
+use lib.Seq.{get_or-set_same, get_or-set_other}
 use borrow.Author.Tests.{eqb-true, eqb-false, eq-eqb, ne_eqb, not-true, ltb-false, le-ltb}
 use Rattle.ground.specs.Choose.{choose}
 use Rattle.ground.specs.Below.{one, among}
@@ -19,10 +18,10 @@ use Rattle.ground.proofs.Runs.{run_same}
 use Rattle.board.specs.declared.Node.{Node}
 use Rattle.board.specs.Node.{none}
 use Rattle.board.specs.Table.{at}
-use Rattle.board.specs.Columns.{kind_of, kinds_of, stored_version, versions_of, forty}
+use Rattle.board.specs.Columns.{kind_of, kinds_of, stored_version, versions_of}
 use Rattle.board.specs.Types.{type_count, too_many_types, FewTypes, is_new, Marks, is_unmarked}
 use Rattle.board.proofs.Positions.{Outside, at_outside, position_case}
-use Rattle.board.proofs.Columns.{column_at_lem, column_position, column_next, forty_length, forty_at}
+use Rattle.board.proofs.Column.{column_at_lem, column_position, column_next}
 
 -- what is new is somebody's type, and none of these
 pub new_type : (kinds : List ℕ) (kind : ℕ) → is_new kinds kind ≡ true → (0 < kind) × (among kind kinds ≡ false)
@@ -143,10 +142,6 @@ types_within kinds (x ∷ after) h = go (is_new after x) refl (λ m. types_withi
 
         but : (k : ℕ) → 0 < k → among k after ≡ true → among k (without x kinds) ≡ true
         but k l m = without_member x kinds k ∙ both (among k kinds) _ (later k l m) (not_yes _ (ne_eqb k x (λ z. false≢true (sym (new_type after x e).1 ∙ ap (λ (y : ℕ). among y after) (sym z) ∙ m))))
-
--- one type more of a column, behind a first one
-pub next_type : (kind : ℕ) (kinds : List ℕ) (i : ℕ) → i < 40 → kind ∷ take (i + 1) (forty kinds) ≡ (kind ∷ take i (forty kinds)) ++ get_or kinds i 0 ∷ []
-next_type kind kinds i l = ap (λ (l : List ℕ). kind ∷ l) (ap (λ (n : ℕ). take n (forty kinds)) (add-one i) ∙ take-suc (forty kinds) i 0 (omega (arith, l, forty_length kinds)) ∙ ap (λ (x : ℕ). take i (forty kinds) ++ x ∷ []) (forty_at kinds i l))
 
 -- a type that is 0 is nobody's, and changes nothing
 pub nobody_more : (kinds versions : List ℕ) → too_many_types (0 ∷ kinds) (0 ∷ versions) ≡ too_many_types kinds versions

@@ -10,6 +10,8 @@ use Rattle.board.proofs.blank_node.Reads as blank-node
 use Rattle.board.proofs.joined_node.Reads as joined-node
 use Rattle.board.proofs.version_of.Reads as version_of
 use Rattle.board.proofs.with_byte.Reads as with_byte
+use Rattle.board.proofs.is_kind.Reads as is-kind
+use Rattle.board.proofs.is_version.Reads as is-version
 use Rattle.board.proofs.mark.Reads as mark
 use Rattle.board.proofs.has_old.Reads as has-old
 use Rattle.board.proofs.too_many_with.Reads as too-many-with
@@ -70,13 +72,19 @@ unique_byte_at κs a s t r q p p' = p ∙ sym p'
 pub unique_with_byte : (κs a s t : _) (r q : List ℕ) → with_byte.Post κs a r s → with_byte.Post κs a q t → r ≡ q
 unique_with_byte κs a s t r q p p' = p ∙ sym p'
 
+pub unique_is_kind : (a s t : _) (r q : Bool) → is-kind.Post tt a r s → is-kind.Post tt a q t → r ≡ q
+unique_is_kind a s t r q p p' = p ∙ sym p'
+
+pub unique_is_version : (a s t : _) (r q : Bool) → is-version.Post tt a r s → is-version.Post tt a q t → r ≡ q
+unique_is_version a s t r q p p' = p ∙ sym p'
+
 pub unique_mark : (κs : _) (a s t : MutBor (List ℕ) × (ℕ × Unit {0})) (r q : Bool) → mark.Post κs a r s → mark.Post κs a q t → (r ≡ q) × (s.0.now ≡ t.0.now)
 unique_mark κs a s t r q p p' = (p.0 ∙ sym p'.0, p.1 ∙ sym p'.1)
 
 pub unique_has_old : (κs a s t : _) (r q : Bool) → has-old.Post κs a r s → has-old.Post κs a q t → r ≡ q
 unique_has_old κs a s t r q p p' = p ∙ sym p'
 
-pub unique_too_many_with : (κs : Lft × (Lft × Unit {0})) (a s t : _) (r q : Bool) → too-many-with.Post κs a r s → too-many-with.Post κs a q t → r ≡ q
+pub unique_too_many_with : (κs : Lft × Unit {0}) (a s t : _) (r q : Bool) → too-many-with.Post κs a r s → too-many-with.Post κs a q t → r ≡ q
 unique_too_many_with κs a s t r q p p' = p ∙ sym p'
 
 pub unique_lowest_mac : (κs a s t : _) (r q : ℕ) → lowest-mac.Post κs a r s → lowest-mac.Post κs a q t → r ≡ q

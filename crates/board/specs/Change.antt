@@ -11,23 +11,23 @@ joined_node kind mac session version = record { kind = kind; mac = mac; session 
 
 -- the list is owed to a listed board, and to nobody else (01, "Join": "the list is owed to every listed board")
 abbrev pub owe : Node → Node
-owe n = record { kind = n.kind; mac = n.mac; session = n.session; misses = n.misses; owed = choose (is_listed n) 1 n.owed; index = n.index; version = n.version }
+owe n = record n { owed = choose (is_listed n) 1 n.owed }
 
 -- the list went out to the board (01, "Turn": "clearing that mark")
 abbrev pub unmarked : Node → Node
-unmarked n = record { kind = n.kind; mac = n.mac; session = n.session; misses = n.misses; owed = 0; index = n.index; version = n.version }
+unmarked n = record n { owed = 0 }
 
 -- a frame of the board was accepted (01, "Frame": "sets the board's misses to 0")
 abbrev pub heard : Node → Node
-heard n = record { kind = n.kind; mac = n.mac; session = n.session; misses = 0; owed = n.owed; index = n.index; version = n.version }
+heard n = record n { misses = 0 }
 
 -- one miss more (01, "Quiet"); the count of a record that is not fit stops at 255
 abbrev pub missed : Node → Node
-missed n = record { kind = n.kind; mac = n.mac; session = n.session; misses = min (n.misses + 1) 255; owed = n.owed; index = n.index; version = n.version }
+missed n = record n { misses = min (n.misses + 1) 255 }
 
 -- the session replaced (01, "Frame")
 abbrev pub renewed : Node → ℕ → Node
-renewed n session = record { kind = n.kind; mac = n.mac; session = session; misses = n.misses; owed = n.owed; index = n.index; version = n.version }
+renewed n session = record n { session = session }
 
 -- the list is owed to every listed board (01, "Join")
 unfoldable pub owe_all : List Node → List Node

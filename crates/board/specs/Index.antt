@@ -7,7 +7,7 @@ use Rattle.board.specs.Wanted.{index_of}
 
 -- a record with this index; among more records than a table has it stops at 255
 abbrev pub indexed : Node → ℕ → Node
-indexed n index = record { kind = n.kind; mac = n.mac; session = n.session; misses = n.misses; owed = n.owed; index = min index 255; version = n.version }
+indexed n index = record n { index = min index 255 }
 
 -- every record with the index that is counted (02, C-13: "the stored number equals the count in document 01, for every board")
 unfoldable pub numbered : List Node → List Node

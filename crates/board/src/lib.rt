@@ -1,10 +1,12 @@
 // The boards that the panel knows: a record for each of forty positions, and what the steps ask about them.
-// A position is a number from 1 on; position 0 and those past the table name nobody, and hold the blank record.
+// A position is a number from 1 on; position 0 and those past the table name nobody, and hold the blank record. So whoever
+// looks for a position is answered 0 where there is none, which is the rule book's "nobody".
+// Most is asked of columns, an array for each field of forty records: a step notes those that it asks, once for all.
 #![tactic(auto)]
 
-ghost use Rattle.std.specs.Prelude.{◌≡◌, ◌∷◌, set, ◌+◌, ◌≤◌, ◌<◌, min};
+ghost use Rattle.std.specs.Prelude.{◌≡◌, ◌∷◌, ℕ, get_or, set, ◌+◌, ◌-◌, ◌≤◌, ◌<◌, min, unwrap_or};
 ghost use Rattle.ground.specs.Below.{one, among, first_or, up_from};
-ghost use Rattle.board.specs.Node.{none, version_of};
+ghost use Rattle.board.specs.Node.{none, is_kind, is_version, version_of};
 ghost use Rattle.board.specs.Table.{listed_at};
 ghost use Rattle.board.specs.declared.Wanted.TheVariants.{Kind};
 ghost use Rattle.board.specs.Columns.{typed_as, typed, lowest_in, column_at, column_with, forty};
@@ -14,13 +16,11 @@ ghost use Rattle.board.specs.Index.{indexed};
 ghost use Rattle.board.specs.Wanted.{wants, wanted_at, lowest_of, of_kind_below, index_of};
 ghost use Rattle.board.specs.Round.{next_listed};
 
-use ground::{least, one_if};
-
 // What the panel knows of the board at one position. `owed` is 1 where the node list is owed to it, else 0: what a host
 // lends holds numbers only, so that every bit pattern has a meaning. `index` is how many lower listed positions are of its
 // type, `version` 1 of a 1.0 board and 2 of a later one; both are 0 where nobody is listed.
 #[repr(C)]
-#[derive(Clone, Copy)]
+#[derive(Clone, Copy, PartialEq, Eq, Default)]
 pub struct Node {
     pub kind: u8,
     pub mac: u64,
@@ -33,14 +33,24 @@ pub struct Node {
 
 // The records of positions 1 to 40.
 #[repr(C)]
-#[derive(Clone, Copy)]
+#[derive(Clone, Copy, PartialEq, Eq)]
 pub struct Table {
     pub nodes: [Node; 40],
 }
 
+// What is seen of forty records, column by column: the type, the stored index, the version and the MAC of each listed board, 0
+// where nobody is.
+#[derive(Clone, Copy)]
+pub struct Columns {
+    pub kinds: [u8; 40],
+    pub indexes: [u8; 40],
+    pub versions: [u8; 40],
+    pub macs: [u64; 40],
+}
+
 // What is looked for at a position: a listed board, a free position, a board to which the list is owed, one of a type,
 // one with a MAC.
-#[derive(Clone, Copy)]
+#[derive(Clone, Copy, PartialEq, Eq)]
 pub enum Wanted {
     Listed,
     Free,
@@ -53,25 +63,29 @@ pub enum Wanted {
 pub fn blank_node() -> Node
     ensures { result ≡ none }
 {
-    Node {
-        kind: 0,
-        mac: 0,
-        session: 0,
-        misses: 0,
-        owed: 0,
-        index: 0,
-        version: 0,
-    }
+    Node::default()
 }
 
 // The version of a record by the one that a join gives.
+#[tactic(auto, unfolding(ground::specs::Choose::choose))]
 pub fn version_of(version: u8) -> u8
     ensures { result ≡ version_of version }
 {
-    if version == 1 {
-        return 1;
-    }
-    2
+    if version == 1 { 1 } else { 2 }
+}
+
+// A board's type is neither 0 nor the coordinator's.
+pub fn is_kind(kind: u8) -> bool
+    ensures { result ≡ is_kind kind }
+{
+    !matches!(kind, 0 | 165)
+}
+
+// The version of a listed board is 1 or 2.
+pub fn is_version(version: u8) -> bool
+    ensures { result ≡ is_version version }
+{
+    matches!(version, 1 | 2)
 }
 
 // The record of a board that joins, for the first time or again. The list is owed to all afterwards, this board included,
@@ -80,77 +94,68 @@ pub fn joined_node(kind: u8, mac: u64, session: u64, version: u8) -> Node
     ensures { result ≡ joined_node kind mac session version }
 {
     Node {
-        kind: kind,
-        mac: mac,
-        session: session,
-        misses: 0,
-        owed: 0,
-        index: 0,
+        kind,
+        mac,
+        session,
         version: version_of(version),
+        ..Node::default()
     }
 }
 
 // The record of a board to which the list is owed. A free position's record stays as it is.
-pub fn owe(node: Node) -> Node
+// Here and below a field is set: `Node { owed: 1, ..node }` stores padding too (`bench/run instructions`: a frame 2,199 for 2,084).
+#[tactic(auto, unfolding(ground::specs::Choose::choose))]
+pub fn owe(mut node: Node) -> Node
     ensures { result ≡ owe node }
 {
-    let mut n = node;
-    if n.kind != 0 {
-        n.owed = 1;
-        return n;
+    if node.kind != 0 {
+        node.owed = 1;
     }
-    n
+    node
 }
 
 // The record of a board that has been sent the list.
-pub fn unmarked(node: Node) -> Node
+pub fn unmarked(mut node: Node) -> Node
     ensures { result ≡ unmarked node }
 {
-    let mut n = node;
-    n.owed = 0;
-    n
+    node.owed = 0;
+    node
 }
 
 // The record of a board of which a frame was accepted.
-pub fn heard(node: Node) -> Node
+pub fn heard(mut node: Node) -> Node
     ensures { result ≡ heard node }
 {
-    let mut n = node;
-    n.misses = 0;
-    n
+    node.misses = 0;
+    node
 }
 
 // The record of a board that did not answer.
-pub fn missed(node: Node) -> Node
+pub fn missed(mut node: Node) -> Node
     ensures { result ≡ missed node }
 {
-    let mut n = node;
-    if n.misses < 255 {
-        n.misses += 1;
-        return n;
-    }
-    n
+    node.misses = node.misses.saturating_add(1);
+    node
 }
 
 // The record of a board that has another session.
-pub fn renewed(node: Node, session: u64) -> Node
+pub fn renewed(mut node: Node, session: u64) -> Node
     ensures { result ≡ renewed node session }
 {
-    let mut n = node;
-    n.session = session;
-    n
+    node.session = session;
+    node
 }
 
 // The record of a board that has this index.
-pub fn indexed(node: Node, index: u8) -> Node
+pub fn indexed(mut node: Node, index: u8) -> Node
     ensures { result ≡ indexed node index }
 {
-    let mut n = node;
-    n.index = index;
-    n
+    node.index = index;
+    node
 }
 
-// Whether a type is what is looked for. A mark and a MAC are in other columns.
+// Whether a record of this type is what is looked for. Of a record that is made from its type alone (`typed`) no mark and no MAC
+// is known, and both are 0: none is owed the list, and a listed one is found only by MAC 0.
 fn is_wanted(wanted: Wanted, kind: u8) -> bool
     ensures { result ≡ wants wanted (typed_as kind) }
 {
@@ -158,8 +163,8 @@ fn is_wanted(wanted: Wanted, kind: u8) -> bool
         Wanted::Listed => kind != 0,
         Wanted::Free => kind == 0,
         Wanted::Owed => false,
-        Wanted::Kind(k) => (kind != 0) & (kind == k),
-        Wanted::Mac(mac) => (kind != 0) & (0 == mac),
+        Wanted::Kind(k) => kind != 0 && kind == k,
+        Wanted::Mac(mac) => kind != 0 && mac == 0,
     }
 }
 
@@ -168,121 +173,100 @@ fn is_wanted(wanted: Wanted, kind: u8) -> bool
 pub fn counted(count: u8, kind: u8, node: Node) -> u8
     ensures { result ≡ min (count + one (wants (Kind kind) node)) 255 }
 {
-    if kind == 0 {
+    if kind == 0 || node.kind != kind {
         return count;
     }
-    if node.kind != kind {
-        return count;
-    }
-    if count == 255 {
-        return count;
-    }
-    count + 1
+    count.saturating_add(1)
 }
 
-// The first position that is wanted, of `count` positions from `from` on; 0 for none.
-fn first_from(kinds: &[u8; 40], wanted: Wanted, from: usize, count: usize) -> usize
-    requires { (0 < from) × (from + count ≤ 41) }
-    ensures { result ≡ first_or 0 (wanted_at wanted (typed kinds.now)) (up_from from count) }
+// The first position after one, up to a limit, that is wanted.
+fn first_after(kinds: &[u8; 40], wanted: Wanted, after: usize, limit: usize) -> Option<usize>
+    requires { (after ≤ limit) × (limit ≤ 40) }
+    ensures { (d : ℕ) → unwrap_or result d ≡ first_or d (wanted_at wanted (typed kinds.now)) (up_from (after + 1) (limit - after)) }
 {
-    let mut p = from;
-    let mut left = count;
-    while 0 < left {
-        let i = p - 1;
-        if is_wanted(wanted, kinds[i]) {
-            return p;
-        }
-        p += 1;
-        left -= 1;
-    }
-    0
+    kinds[after..limit]
+        .iter()
+        .position(|kind| is_wanted(wanted, *kind))
+        .map(|i| after + 1 + i)
 }
 
 // The lowest position from 1 to the limit that is wanted; 0 for none.
+#[tactic(auto, unfolding(crate::specs::Wanted::lowest_of))]
 pub fn lowest(kinds: &[u8; 40], wanted: Wanted, limit: usize) -> usize
     ensures { result ≡ lowest_of (typed kinds.now) wanted limit }
 {
-    first_from(kinds, wanted, 1, least(limit, 40))
+    first_after(kinds, wanted, 0, limit.min(40)).unwrap_or(0)
+}
+
+// What stands at a position of a column; `none` at position 0 and past the table.
+fn at<T: Copy>(column: &[T; 40], position: usize, none: T) -> T
+    ensures { result ≡ get_or (none ∷ column.now) position none }
+{
+    if 0 < position && position <= 40 {
+        column[position - 1]
+    } else {
+        none
+    }
 }
 
 // Whether a board is listed at a position.
+#[tactic(auto, using(crate::proofs::Column::listed_read))]
 pub fn listed_at(kinds: &[u8; 40], position: usize) -> bool
     ensures { result ≡ listed_at (typed kinds.now) position }
 {
-    if 0 < position {
-        if position <= 40 {
-            let i = position - 1;
-            return kinds[i] != 0;
-        }
-    }
-    false
+    byte_at(kinds, position) != 0
 }
 
 // The first listed position after another, going round from k to 1; 0 where nobody is listed there.
 pub fn next_listed(kinds: &[u8; 40], k: usize, after: usize) -> usize
     ensures { result ≡ next_listed (typed kinds.now) k after }
 {
-    let top = least(k, 40);
-    let last = least(after, top);
-    let p = first_from(kinds, Wanted::Listed, last + 1, top - last);
-    if 0 < p {
-        p
-    } else {
-        first_from(kinds, Wanted::Listed, 1, last)
-    }
+    let top = k.min(40);
+    let last = after.min(top);
+    first_after(kinds, Wanted::Listed, last, top)
+        .or_else(|| first_after(kinds, Wanted::Listed, 0, last))
+        .unwrap_or(0)
 }
 
 // How many boards of a kind there are at the positions below one.
+#[tactic(auto, using(crate::proofs::Column::wanted_below))]
 fn kind_below(kinds: &[u8; 40], kind: u8, position: usize) -> usize
     requires { (0 < position) × (position ≤ 40) }
     ensures { result ≡ of_kind_below (typed kinds.now) kind position }
 {
-    let mut n: usize = 0;
-    let mut p: usize = 1;
-    while p < position {
-        let i = p - 1;
-        n += one_if(is_wanted(Wanted::Kind(kind), kinds[i]));
-        p += 1;
-    }
-    n
+    kinds[..position - 1]
+        .iter()
+        .filter(|other| is_wanted(Wanted::Kind(kind), **other))
+        .count()
 }
 
 // A board's index as it is counted: the number of lower listed positions of its kind; 0 where nobody is listed.
 pub fn index_of(kinds: &[u8; 40], position: usize) -> usize
     ensures { result ≡ index_of (typed kinds.now) position }
 {
-    if 0 < position {
-        if position <= 40 {
-            let i = position - 1;
-            return kind_below(kinds, kinds[i], position);
-        }
+    if !listed_at(kinds, position) {
+        return 0;
     }
-    0
+    kind_below(kinds, kinds[position - 1], position)
 }
 
-// What a column of bytes, the stored indexes or the versions, holds at a position; 0 at position 0 and past the table.
+// What a column of bytes, the stored indexes or the versions, holds at a position; 0 at position 0 and past the table. This and
+// `mac_at` are names of `at`, for a clause over columns of numbers.
+#[tactic(auto, using(crate::proofs::Column::column_held))]
 pub fn byte_at(column: &[u8; 40], position: usize) -> u8
     ensures { result ≡ column_at column.now position }
 {
-    if 0 < position {
-        if position <= 40 {
-            let i = position - 1;
-            return column[i];
-        }
-    }
-    0
+    at(column, position, 0)
 }
 
 // A column of bytes with another value at a position; as it was at position 0 and past the table.
+#[tactic(auto, unfolding(ground::specs::Choose::choose))]
 pub fn with_byte(column: &[u8; 40], position: usize, value: u8) -> [u8; 40]
     ensures { result ≡ column_with column.now position value }
 {
     let mut after = *column;
-    if 0 < position {
-        if position <= 40 {
-            let i = position - 1;
-            after[i] = value;
-        }
+    if 0 < position && position <= 40 {
+        after[position - 1] = value;
     }
     after
 }
@@ -291,54 +275,39 @@ pub fn with_byte(column: &[u8; 40], position: usize, value: u8) -> [u8; 40]
 pub fn lowest_mac(macs: &[u64; 40], mac: u64, limit: usize) -> usize
     ensures { result ≡ lowest_in macs.now mac limit }
 {
-    let mut p: usize = 1;
-    let mut left = least(limit, 40);
-    while 0 < left {
-        let i = p - 1;
-        if macs[i] == mac {
-            return p;
-        }
-        p += 1;
-        left -= 1;
-    }
-    0
+    macs[..limit.min(40)]
+        .iter()
+        .position(|m| *m == mac)
+        .map_or(0, |i| i + 1)
 }
 
 // The MAC at a position; 0 at position 0 and past the table.
+#[tactic(auto, using(crate::proofs::Column::column_held))]
 pub fn mac_at(macs: &[u64; 40], position: usize) -> u64
     ensures { result ≡ column_at macs.now position }
 {
-    if 0 < position {
-        if position <= 40 {
-            let i = position - 1;
-            return macs[i];
-        }
-    }
-    0
+    at(macs, position, 0)
 }
 
 // Whether a type is met for the first time, by the marks of those met before; it is marked now. Nobody is of type 0. That a
-// type is a byte is told to the caller, who has a column of them.
+// type is a byte is told to the caller, who has a column of them. A mark is a number, since `Marks` counts by it.
 pub fn mark(marks: &mut [u8; 256], kind: u8) -> bool
     ensures { (result ≡ is_unmarked marks.old kind) × (marks.new ≡ set marks.old kind 1) × (kind < 256) }
 {
-    let k = kind as usize;
+    let k = usize::from(kind);
     let before = marks[k];
     marks[k] = 1;
-    (kind != 0) & (before == 0)
+    kind != 0 && before == 0
 }
 
 // Whether a column of versions has a 1.0 board's.
 pub fn has_old(versions: &[u8; 40]) -> bool
     ensures { result ≡ among 1 (forty versions.now) }
 {
-    let mut old = false;
-    let mut i: usize = 0;
-    while i < 40 {
-        old = old | (1 == versions[i]);
-        i += 1;
-    }
-    old
+    // A fold has no way out, so that the compiler does many at a time; `contains` made `too_many_with` 196 instructions for 98 (objdump).
+    versions
+        .iter()
+        .fold(false, |old, version| old | (*version == 1))
 }
 
 // How many different types there are, this one and those of a column.
@@ -346,30 +315,22 @@ fn type_count(kind: u8, kinds: &[u8; 40]) -> usize
     ensures { result ≡ type_count (kind ∷ forty kinds.now) }
 {
     let mut marks = [0u8; 256];
-    let mut n = one_if(mark(&mut marks, kind));
-    let mut i: usize = 0;
-    while i < 40 {
-        n += one_if(mark(&mut marks, kinds[i]));
-        i += 1;
+    let mut n = usize::from(mark(&mut marks, kind));
+    for other in kinds {
+        n += usize::from(mark(&mut marks, *other));
     }
     n
 }
 
 // Whether a 1.0 board is listed with more than 15 types, among a board of this type and version and those of the columns but
 // for the one at a position, 0 for none. The types are counted only where there is a 1.0 board.
-pub fn too_many_with(
-    kinds: &[u8; 40],
-    versions: &[u8; 40],
-    but: usize,
-    kind: u8,
-    version: u8,
-) -> bool
-    ensures { result ≡ many_in kinds.now versions.now but kind version }
+pub fn too_many_with(columns: &Columns, but: usize, kind: u8, version: u8) -> bool
+    ensures { result ≡ many_in columns.now.kinds columns.now.versions but kind version }
 {
-    let theirs = with_byte(versions, but, 0);
-    if (1 == version) | has_old(&theirs) {
-        let others = with_byte(kinds, but, 0);
-        return 15 < type_count(kind, &others);
+    let theirs = with_byte(&columns.versions, but, 0);
+    if version != 1 && !has_old(&theirs) {
+        return false;
     }
-    false
+    let others = with_byte(&columns.kinds, but, 0);
+    15 < type_count(kind, &others)
 }

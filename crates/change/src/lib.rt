@@ -45,7 +45,8 @@ pub enum Move {
 }
 
 // What a step decides on. `ended` says that an exchange by which a board joins is over before the coordinator moves, `owe`
-// that once the record at the position is edited every index is counted anew and the list is owed to every listed board.
+// that once the record at the position is edited every index is counted anew and the list is owed to every listed board. Position 0 with the edit
+// Nothing edits none, as `changing` has it.
 #[derive(Clone, Copy)]
 pub struct Change {
     pub ended: bool,
@@ -60,45 +61,40 @@ pub struct Change {
 pub fn edited(edit: Edit, node: Node) -> Node
     ensures { result ≡ edited edit node }
 {
-    let mut n = node;
-    match edit {
-        Edit::Nothing => {}
-        Edit::Owed => n = board::owe(node),
-        Edit::Missed => n = board::missed(node),
-        Edit::Cleared => n = board::blank_node(),
-        Edit::Unmarked => n = board::unmarked(node),
-        Edit::Heard => n = board::heard(node),
-        Edit::Renewed(session) => n = board::renewed(board::heard(node), session),
-        Edit::Joined(kind, mac, session, version) => {
-            n = board::joined_node(kind, mac, session, version)
-        }
-    }
-    n
+    let edited = match edit {
+        Edit::Nothing => node,
+        Edit::Owed => board::owe(node),
+        Edit::Missed => board::missed(node),
+        Edit::Cleared => board::blank_node(),
+        Edit::Unmarked => board::unmarked(node),
+        Edit::Heard => board::heard(node),
+        Edit::Renewed(session) => board::renewed(board::heard(node), session),
+        Edit::Joined(kind, mac, session, version) => board::joined_node(
+            kind, mac, session, version,
+        ),
+    };
+    edited
 }
 
 // The state before the coordinator moves: at rest where an exchange by which a board joins is over.
+#[tactic(auto, unfolding(ground::specs::Choose::choose))]
 fn rested(ended: bool, state: State) -> State
     ensures { result ≡ state_of (rested ended (stated state)) }
 {
     if ended {
-        return coordinator::ended(state);
+        coordinator::ended(state)
+    } else {
+        state
     }
-    state
 }
 
 // The head of the message to keep, off the bytes received.
+#[tactic(auto, unfolding(ground::specs::Choose::choose))]
 fn head_of(received: &[u8]) -> Head
     ensures { result ≡ head_in received.now }
 {
     if received.len() < 10 {
-        return Head {
-            message: 0,
-            packet: 0,
-            kind: 0,
-            method: 0,
-            parameter: 0,
-            length: 0,
-        };
+        return Head::default();
     }
     Head {
         message: received[7],
@@ -106,53 +102,37 @@ fn head_of(received: &[u8]) -> Head
         kind: received[6],
         method: received[3],
         parameter: received[4],
-        length: received[9] as usize,
+        length: received[9].into(),
     }
 }
 
-// The state once the coordinator has moved. The payload that it keeps is in no state.
-fn moved(ended: bool, moves: Move, state: State, received: &[u8]) -> State
-    ensures { result ≡ state_of (moved moves received.now (rested ended (stated state))) }
-{
-    let s = rested(ended, state);
-    match moves {
-        Move::Stay => s,
-        Move::To(phase) => coordinator::with_phase(s, phase),
-        Move::Offered(board) => coordinator::offered(s, board),
-        Move::Held => coordinator::holding(s, true),
-        Move::Emptied => coordinator::holding(coordinator::with_phase(s, Phase::Resting), false),
-        Move::Keeping(phase) => {
-            let kept = coordinator::keeping(s, head_of(received));
-            coordinator::with_phase(kept, phase)
-        }
-        Move::Searching(position) => coordinator::searching(s, position),
-        Move::Finding(found, position) => coordinator::finding(s, found, position),
-    }
-}
-
-// The state that a change leaves of a state.
+// The state that a change leaves of a state, once the coordinator has moved. The payload that it keeps is in no state.
 pub fn after(change: Change, state: State, received: &[u8]) -> State
     ensures { result ≡ state_of (moved change.moves received.now (rested change.ended (stated state))) }
 {
-    let moves = change.moves;
-    moved(change.ended, moves, state, received)
+    let state = rested(change.ended, state);
+    match change.moves {
+        Move::Stay => state,
+        Move::To(phase) => coordinator::with_phase(state, phase),
+        Move::Offered(board) => coordinator::offered(state, board),
+        Move::Held => coordinator::holding(state, true),
+        Move::Emptied => coordinator::holding(
+            coordinator::with_phase(state, Phase::Resting),
+            false,
+        ),
+        Move::Keeping(phase) => {
+            coordinator::with_phase(coordinator::keeping(state, head_of(received)), phase)
+        }
+        Move::Searching(position) => coordinator::searching(state, position),
+        Move::Finding(found, position) => coordinator::finding(state, found, position),
+    }
 }
 
 // Whether a change keeps the payload received.
 pub fn keeps(change: Change) -> bool
     ensures { result ≡ keeps change.moves }
 {
-    let moves = change.moves;
-    match moves {
-        Move::Stay => false,
-        Move::To(_) => false,
-        Move::Offered(_) => false,
-        Move::Held => false,
-        Move::Emptied => false,
-        Move::Keeping(_) => true,
-        Move::Searching(_) => false,
-        Move::Finding(_, _) => false,
-    }
+    matches!(change.moves, Move::Keeping(_))
 }
 
 // A change that joins nobody and drops nobody: what becomes of the coordinator, the record edited at a position, the answer
@@ -160,19 +140,16 @@ pub fn keeps(change: Change) -> bool
 pub fn changing(moves: Move, position: usize, edit: Edit, answer: Answer, written: usize) -> Change
     ensures { result ≡ changing moves position edit false answer written 0 0 }
 {
-    let outcome = Outcome {
-        answer: answer,
-        written: written,
-        joined: 0,
-        dropped: 0,
-    };
     Change {
         ended: false,
-        moves: moves,
-        position: position,
-        edit: edit,
+        position,
+        edit,
         owe: false,
-        outcome: outcome,
+        outcome: Outcome {
+            written,
+            ..answer.into()
+        },
+        moves,
     }
 }
 
@@ -183,7 +160,8 @@ pub fn refusing(refusal: Refusal) -> Change
     changing(Move::Stay, 0, Edit::Nothing, Answer::Refuse(refusal), 0)
 }
 
-// The panel rests; the list is owed to all or not, with the position joined and the one dropped, 0 for none.
+// The panel rests; the list is owed to all or not, with the position joined and the one dropped, 0 for none, as in `Outcome`;
+// all that `changing` names where the answer is Rest.
 pub fn resting(
     moves: Move,
     position: usize,
@@ -194,19 +172,15 @@ pub fn resting(
 ) -> Change
     ensures { result ≡ changing moves position edit owe Rest 0 joined dropped }
 {
-    let outcome = Outcome {
-        answer: Answer::Rest,
-        written: 0,
-        joined: joined,
-        dropped: dropped,
-    };
+    let change = changing(moves, position, edit, Answer::Rest, 0);
     Change {
-        ended: false,
-        moves: moves,
-        position: position,
-        edit: edit,
-        owe: owe,
-        outcome: outcome,
+        owe,
+        outcome: Outcome {
+            joined,
+            dropped,
+            ..change.outcome
+        },
+        ..change
     }
 }
 
@@ -214,41 +188,27 @@ pub fn resting(
 pub fn ending(change: Change) -> Change
     ensures { result ≡ ending change }
 {
-    let mut x = change;
-    x.ended = true;
-    x
-}
-
-// Bytes with zeros past them.
-fn padded(payload: &[u8]) -> [u8; 240]
-    requires { length payload.now ≤ 240 }
-    ensures { result ≡ kept_bytes payload.now }
-{
-    let mut kept = [0u8; 240];
-    let mut i: usize = 0;
-    while i < payload.len() {
-        kept[i] = payload[i];
-        i += 1;
+    Change {
+        ended: true,
+        ..change
     }
-    kept
 }
 
 // The payload to keep of bytes received.
+#[tactic(auto, using(crate::proofs::Keeping::keeps_padded), unfolding(ground::specs::Choose::choose))]
 fn kept_bytes(received: &[u8]) -> [u8; 240]
     ensures { result ≡ kept_bytes (keepable received.now) }
 {
-    let count = received.len();
-    if count < 10 {
-        return [0u8; 240];
+    if received.len() < 10 {
+        return [0; 240];
     }
-    let length = received[9] as usize;
-    let said = ground::least(length, 240);
-    let n = ground::least(said, count - 10);
-    let end = 10 + n;
-    padded(&received[10..end])
+    let payload = &received[10..];
+    let n = usize::from(received[9]).min(payload.len());
+    ground::padded(&payload[..n])
 }
 
-// The payload received put over the one that is kept, where it is to be kept.
+// The payload received put over the one that is kept, where it is to be kept: the clause says what stays otherwise too.
+#[tactic(auto, unfolding(ground::specs::Choose::choose))]
 pub fn keep(keep: bool, received: &[u8], payload: &mut [u8; 240])
     ensures { payload.new ≡ choose keep (kept_bytes (keepable received.now)) payload.old }
 {

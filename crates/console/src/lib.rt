@@ -17,7 +17,8 @@ pub fn read_full<R: Read>(from: &mut R, into: &mut [u8]) -> io::Result<usize>
     ensures bytes { IfOk result (λ n. Consumes (R.remaining from.old) (R.remaining from.new) (take n into.new)) }
     ensures end { IfOk result (λ n. n < length into.new → IsAtEnd (R.remaining from.new)) }
 {
-    let mut done: usize = 0;
+    // How far a read gets is the reader's own, so that no loop over a range fits.
+    let mut done = 0;
     while done < into.len() {
         let n = from.read(&mut into[done..])?;
         if n == 0 {
@@ -35,19 +36,12 @@ pub fn write_decimal<W: Write>(to: &mut W, n: u64) -> io::Result<()>
     write!(to, "{n}")
 }
 
-fn hex_digit(n: u8) -> u8
-    requires { n < 16 }
-    ensures { result ≡ digit_glyph false n }
-{
-    if n < 10 { 48 + n } else { 87 + n }
-}
-
 // Writes a byte as two digits in hex, in lower case.
+#[tactic(auto, using(std::proofs::lemmas::Fmt::hex_byte))]
 pub fn write_hex<W: Write>(to: &mut W, byte: u8) -> io::Result<()>
     ensures { OnOk result (Appends (W.contents to.old) (W.contents to.new) (digit_glyph false (byte / 16) ∷ digit_glyph false (byte % 16) ∷ [])) }
 {
-    let text = [hex_digit(byte / 16), hex_digit(byte % 16)];
-    to.write_all(&text)
+    write!(to, "{byte:02x}")
 }
 
 #[cfg(test)]

@@ -4,9 +4,14 @@ use mathlib.Core.List.{List}
 use Rattle.board.specs.declared.Node.{Node}
 use Rattle.board.specs.declared.Table.{Table}
 use Rattle.coordinator.specs.declared.Phase.{Phase}
+use Rattle.coordinator.specs.declared.Stand.{Stand}
+use Rattle.coordinator.specs.declared.Head.{Head}
 use Rattle.coordinator.specs.declared.State.{State}
 use Rattle.coordinator.specs.declared.Coordinator.{Coordinator}
 use Rattle.coordinator.proofs.phase_of.Reads as phase-of
+use Rattle.coordinator.proofs.StandFromPhase.from.Reads as stand-from
+use Rattle.coordinator.proofs.HeadFromRefKept.from.Reads as head-from
+use Rattle.coordinator.proofs.StateFromRefCoordinator.from.Reads as state-from
 use Rattle.coordinator.proofs.fresh.Reads as fresh
 use Rattle.coordinator.proofs.blank_table.Reads as blank-table
 use Rattle.coordinator.proofs.with_phase.Reads as with-phase
@@ -19,6 +24,15 @@ use Rattle.coordinator.proofs.ended.Reads as ended
 
 pub unique_phase_of : (a s t : _) (r q : Phase) → phase-of.Post tt a r s → phase-of.Post tt a q t → r ≡ q
 unique_phase_of a s t r q p p' = p ∙ sym p'
+
+pub unique_stand_from : (a s t : _) (r q : Stand) → stand-from.Post tt a r s → stand-from.Post tt a q t → r ≡ q
+unique_stand_from a s t r q p p' = p ∙ sym p'
+
+pub unique_head_from : (κs a s t : _) (r q : Head) → head-from.Post κs a r s → head-from.Post κs a q t → r ≡ q
+unique_head_from κs a s t r q p p' = p ∙ sym p'
+
+pub unique_state_from : (κs a s t : _) (r q : State) → state-from.Post κs a r s → state-from.Post κs a q t → r ≡ q
+unique_state_from κs a s t r q p p' = p ∙ sym p'
 
 pub unique_fresh : (a s t : _) (r q : Coordinator) → fresh.Post tt a r s → fresh.Post tt a q t → r ≡ q
 unique_fresh a s t r q p p' = p ∙ sym p'

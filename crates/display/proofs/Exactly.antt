@@ -14,9 +14,9 @@ use Rattle.refusal.specs.Refusal.{number_of, refuses, gives, ruled}
 use Rattle.refusal.specs.declared.Refusal.{Refusal}
 use Rattle.refusal.specs.declared.Refusal.TheVariants.{NoRoom, BadTextLength, BadText}
 use Rattle.refusal.proofs.Numbers.{same_refused, gives_not}
-use Rattle.refusal.proofs.Rules.{Passed, passed_on, stopped, said, Unsaid, refused_not, refused_first, refused_later, refused_beyond}
+use Rattle.refusal.proofs.Rules.{Passed, passed_on, Unsaid, refused_not, refused_first, refused_later, refused_beyond}
 use Rattle.display.specs.Text.{all_text, behind, length_rules, text_rules, read_text, text_payload, write_text_rules, write_text}
-use Rattle.display.proofs.Laws.{not_text}
+use Rattle.display.proofs.Laws.{not_long, not_text}
 use Rattle.display.proofs.RoundTrip.{length_there, text_there, long}
 
 module _ (own most : ℕ) (p : List ℕ) where
@@ -26,7 +26,7 @@ module _ (own most : ℕ) (p : List ℕ) where
   -- 32 is read exactly where a length is wrong
   pub bad_length_exactly : (read_text own most p ≡ refuses BadTextLength) ↔ (Passed (length_rules own most p) → ⊥)
   unfolding read_text fixed
-  bad_length_exactly = (only, λ h. stopped (length_rules own most p) (text_rules (behind own p)) refuses (gives fixed) (gives fixed) h ∙ said (length_rules own most p) BadTextLength refuses (gives fixed) (refl, (refl, (refl, tt))) h)
+  bad_length_exactly = (only, λ h. not_long own most p refuses (gives fixed) h)
     where
       only : ruled (length_rules own most p ++ text_rules (behind own p)) refuses (gives fixed) ≡ refuses BadTextLength → Passed (length_rules own most p) → ⊥
       only e ok =

@@ -1,7 +1,7 @@
 -- Set Display and Set Diagnostics: the round trip at their maxima, 30 and 15; the message that clears a fault; the reply.
 use Prim.Native.Nat.{ℕ, ◌≤◌}
 use native.Mathlib.Omega.{arith}
-use mathlib.Core.Path.{◌≡◌, refl, sym, ap, ◌∙◌}
+use mathlib.Core.Path.{◌≡◌, refl, ap, ◌∙◌}
 use mathlib.Core.Logic.{◌↔◌}
 use mathlib.Core.Bool.{Bool, true, ◌&&◌}
 use mathlib.Core.List.{List, [], ◌∷◌}
@@ -12,13 +12,13 @@ use Rattle.ground.specs.Choose.{choose}
 use Rattle.ground.specs.Below.{all}
 use Rattle.ground.proofs.Choices.{and_left, and_right}
 use Rattle.refusal.specs.Refusal.{gives}
-use Rattle.refusal.proofs.Numbers.{told_values, same_refused, gives_not}
-use Rattle.display.specs.declared.Display.{Display}
-use Rattle.display.specs.declared.Display.TheVariants.{Message, Refused}
-use Rattle.display.specs.declared.Diagnostics.{Diagnostics}
-use Rattle.display.specs.declared.Diagnostics.TheVariants.{Fault, Refused as NoFault}
+use Rattle.refusal.proofs.Numbers.{same_said}
+use Rattle.refusal.specs.declared.Refusal.{Refusal}
+use Rattle.std.specs.Prelude.{Result}
+use Rattle.display.specs.declared.Message.{Message}
+use Rattle.display.specs.declared.Fault.{Fault}
 use Rattle.display.specs.Text.{all_text, read_text, text_of, text_bytes}
-use Rattle.display.specs.Messages.{display_most, display_own, read_display, display_text, write_display, display_bytes, diagnostics_most, diagnostics_own, read_diagnostics, diagnostics_text, write_diagnostics, diagnostics_bytes, told_display, told_diagnostics, reply, is_reply}
+use Rattle.display.specs.Messages.{display_most, display_own, read_display, display_text, write_display, display_bytes, diagnostics_most, diagnostics_own, read_diagnostics, diagnostics_text, write_diagnostics, diagnostics_bytes, message_values, told_display, fault_values, told_diagnostics, reply, is_reply}
 use Rattle.display.proofs.RoundTrip.{written_reads_back, written_again_as}
 use Rattle.display.proofs.Shown.{payload_length}
 
@@ -71,14 +71,8 @@ reply_exactly p = (λ h. only p (eqb-true (length p) 2 (and_left (eqb (length p)
     only (a ∷ b ∷ c ∷ p) e h = absurd (let z : ⊥ = omega arith in z)
 
 -- two readings that say the same are the same
-pub same_display : (r q : Display) → told_display r ≡ told_display q → r ≡ q
-same_display (Message k n) (Message l m) e = λ i. Message (get_or (told_values e i) 0 0) (get_or (told_values e i) 1 0)
-same_display (Message k n) (Refused q) e = absurd (gives_not _ q e)
-same_display (Refused r) (Message l m) e = absurd (gives_not _ r (sym e))
-same_display (Refused r) (Refused q) e = ap Refused (same_refused r q e)
+pub same_display : (r q : Result Message Refusal) → told_display r ≡ told_display q → r ≡ q
+same_display = same_said message_values (λ m n e i. record { kind = get_or (e i) 0 0; length = get_or (e i) 1 0 })
 
-pub same_diagnostics : (r q : Diagnostics) → told_diagnostics r ≡ told_diagnostics q → r ≡ q
-same_diagnostics (Fault k a b n) (Fault l c d m) e = λ i. Fault (get_or (told_values e i) 0 0) (get_or (told_values e i) 1 0) (get_or (told_values e i) 2 0) (get_or (told_values e i) 3 0)
-same_diagnostics (Fault k a b n) (NoFault q) e = absurd (gives_not _ q e)
-same_diagnostics (NoFault r) (Fault l c d m) e = absurd (gives_not _ r (sym e))
-same_diagnostics (NoFault r) (NoFault q) e = ap NoFault (same_refused r q e)
+pub same_diagnostics : (r q : Result Fault Refusal) → told_diagnostics r ≡ told_diagnostics q → r ≡ q
+same_diagnostics = same_said fault_values (λ f g e i. record { kind = get_or (e i) 0 0; major = get_or (e i) 1 0; minor = get_or (e i) 2 0; length = get_or (e i) 3 0 })

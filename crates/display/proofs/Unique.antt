@@ -4,11 +4,13 @@ use mathlib.Core.Bool.{Bool}
 use mathlib.Core.List.{List}
 use Prim.Native.Nat.{ℕ}
 use denote.Ref.{Bor, MutBor}
-use Rattle.frame.specs.declared.Writing.{Writing}
+use Rattle.frame.specs.Frame.{Writing}
 use Rattle.frame.specs.declared.WriteNumbers.{WriteNumbers}
 use Rattle.frame.proofs.Unique.{one_writing}
-use Rattle.display.specs.declared.Display.{Display}
-use Rattle.display.specs.declared.Diagnostics.{Diagnostics}
+use Rattle.std.specs.Prelude.{Result}
+use Rattle.refusal.specs.declared.Refusal.{Refusal}
+use Rattle.display.specs.declared.Message.{Message}
+use Rattle.display.specs.declared.Fault.{Fault}
 use Rattle.display.specs.declared.TextNumbers.{TextNumbers}
 use Rattle.display.proofs.Messages.{same_display, same_diagnostics}
 use Rattle.display.proofs.read_display.Reads as read-display
@@ -24,10 +26,10 @@ use Rattle.display.proofs.nadrelgos_write_display.Reads as face-write-display
 use Rattle.display.proofs.nadrelgos_write_diagnostics.Reads as face-write-diagnostics
 use Rattle.display.proofs.nadrelgos_is_reply.Reads as face-is-reply
 
-pub unique_read_display : (κs a s t : _) (r q : Display) → read-display.Post κs a r s → read-display.Post κs a q t → r ≡ q
+pub unique_read_display : (κs a s t : _) (r q : Result Message Refusal) → read-display.Post κs a r s → read-display.Post κs a q t → r ≡ q
 unique_read_display κs a s t r q p p' = same_display r q (p ∙ sym p')
 
-pub unique_read_diagnostics : (κs a s t : _) (r q : Diagnostics) → read-diagnostics.Post κs a r s → read-diagnostics.Post κs a q t → r ≡ q
+pub unique_read_diagnostics : (κs a s t : _) (r q : Result Fault Refusal) → read-diagnostics.Post κs a r s → read-diagnostics.Post κs a q t → r ≡ q
 unique_read_diagnostics κs a s t r q p p' = same_diagnostics r q (p ∙ sym p')
 
 pub unique_display_text : (κs a s t : _) (r q : Bor (List ℕ)) → display-text.Post κs a r s → display-text.Post κs a q t → r.now ≡ q.now

@@ -1,11 +1,10 @@
 -- Set Display (003, 5.4) and Set Diagnostics (003, 5.5), and the response to both.
-use Rattle.std.specs.Prelude.{ℕ, Bool, ◌&&◌, List, [], ◌∷◌, length, get_or, eqb}
+use Rattle.std.specs.Prelude.{ℕ, Bool, ◌&&◌, List, [], ◌∷◌, length, get_or, eqb, Result}
 use Rattle.ground.specs.Below.{all}
-use Rattle.refusal.specs.Refusal.{Told, refuses, gives}
-use Rattle.display.specs.declared.Display.{Display}
-use Rattle.display.specs.declared.Display.TheVariants.{Message, Refused}
-use Rattle.display.specs.declared.Diagnostics.{Diagnostics}
-use Rattle.display.specs.declared.Diagnostics.TheVariants.{Fault, Refused as NoFault}
+use Rattle.refusal.specs.Refusal.{Told, says}
+use Rattle.refusal.specs.declared.Refusal.{Refusal}
+use Rattle.display.specs.declared.Message.{Message}
+use Rattle.display.specs.declared.Fault.{Fault}
 use Rattle.display.specs.Text.{read_text, text_of, write_text, text_bytes}
 
 -- "the maximum message length is thirty" (003, 5.4)
@@ -56,15 +55,21 @@ write_diagnostics kind major minor text room = write_text diagnostics_most (diag
 abbrev pub diagnostics_bytes : ℕ → ℕ → ℕ → List ℕ → ℕ → List ℕ
 diagnostics_bytes kind major minor text room = text_bytes diagnostics_most (diagnostics_own kind major minor) text room
 
--- what a reading of a Set Display says
-abbrev pub told_display : Display → Told
-told_display (Message kind n) = gives (kind ∷ n ∷ [])
-told_display (Refused r) = refuses r
+-- the numbers of a Set Display that was read: node type, message length (003, Table 8)
+abbrev pub message_values : Message → List ℕ
+message_values m = m.kind ∷ m.length ∷ []
 
--- what a reading of a Set Diagnostics says
-abbrev pub told_diagnostics : Diagnostics → Told
-told_diagnostics (Fault kind major minor n) = gives (kind ∷ major ∷ minor ∷ n ∷ [])
-told_diagnostics (NoFault r) = refuses r
+-- what a reading of one says
+abbrev pub told_display : Result Message Refusal → Told
+told_display = says message_values
+
+-- the numbers of a Set Diagnostics that was read: node type, major and minor fault code, message length (003, Table 10)
+abbrev pub fault_values : Fault → List ℕ
+fault_values f = f.kind ∷ f.major ∷ f.minor ∷ f.length ∷ []
+
+-- what a reading of one says
+abbrev pub told_diagnostics : Result Fault Refusal → Told
+told_diagnostics = says fault_values
 
 -- the payload of either's response: the confirmation code 0xAC 0x06 (003, Tables 9 and 11)
 abbrev pub reply : List ℕ

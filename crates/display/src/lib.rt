@@ -1,16 +1,16 @@
 // Texts and faults for the display: the payloads of Set Display (0x04) and Set Diagnostics (0x05), read and written, and of the response to both.
 #![tactic(auto)]
 
-ghost use Rattle.std.specs.Prelude.{◌≡◌, ◌≤◌, length};
+ghost use Rattle.std.specs.Prelude.{◌≡◌, ◌≤◌, length, take, IfOk};
 ghost use Rattle.ground.specs.Bytes.{laid};
 ghost use Rattle.refusal.specs.Refusal.{refuses};
 ghost use Rattle.frame.specs.Frame.{told_written, write_numbers};
-ghost use Rattle.display.specs.Text.{is_text, all_text, text_of, write_text, text_bytes};
+ghost use Rattle.display.specs.Text.{is_text, all_text, behind, text_of, write_text, text_bytes};
 ghost use Rattle.display.specs.Messages.{read_display, display_text, write_display, display_bytes, read_diagnostics, diagnostics_text, write_diagnostics, diagnostics_bytes, told_display, told_diagnostics, is_reply};
 ghost use Rattle.display.specs.Numbers.{display_numbers, diagnostics_numbers};
 ghost use Rattle.display.specs.Form.{told_form, forming};
 
-use frame::{WriteNumbers, Writing};
+use frame::WriteNumbers;
 use refusal::Refusal;
 
 // The payload of the response to both messages: the confirmation code.
@@ -22,28 +22,26 @@ const DISPLAY_MOST: usize = 30;
 // And that of a Set Diagnostics.
 const DIAGNOSTICS_MOST: usize = 15;
 
-// What reading a Set Display finds: node type and message length, or why it is none.
+// What a Set Display says: node type and message length.
 #[derive(Clone, Copy)]
-pub enum Display {
-    Message { kind: u8, length: usize },
-    Refused(Refusal),
+pub struct Message {
+    pub kind: u8,
+    pub length: usize,
 }
 
-// What reading a Set Diagnostics finds: node type, fault codes and message length, or why it is none.
+// What a Set Diagnostics says: node type, fault codes and message length.
 #[derive(Clone, Copy)]
-pub enum Diagnostics {
-    Fault {
-        kind: u8,
-        major: u8,
-        minor: u8,
-        length: usize,
-    },
-    Refused(Refusal),
+pub struct Fault {
+    pub kind: u8,
+    pub major: u8,
+    pub minor: u8,
+    pub length: usize,
 }
 
-// Either reading, for C: the refusal's number or 0, what was read, and where in the payload the text stands.
+// Either reading, as `nadrelgos_read_display` and `nadrelgos_read_diagnostics` give it to C, which has no Result: the refusal's number or 0, what
+// was read, and where in the payload the text stands.
 #[repr(C)]
-#[derive(Clone, Copy)]
+#[derive(Clone, Copy, Default)]
 pub struct TextNumbers {
     pub refusal: u8,
     pub kind: u8,
@@ -53,157 +51,138 @@ pub struct TextNumbers {
     pub length: usize,
 }
 
-// Whether a payload is well formed.
-#[derive(Clone, Copy)]
-enum Form {
-    Well,
-    Refused(Refusal),
-}
-
 fn is_text(b: u8) -> bool
     ensures { result ≡ is_text b }
 {
-    (32 <= b) & (b <= 126)
+    matches!(b, 0x20..=0x7E)
 }
 
+// Every byte is asked, with no way out of the loop, so that the compiler asks several at once: by `all` the reading of a text of 30 bytes takes 242
+// instructions instead of 131 (valgrind --tool=callgrind on a thousand calls of `nadrelgos_read_display`).
+#[tactic(auto, using(ground::proofs::Loops::loops), unfolding(crate::specs::Text::all_text))]
 fn all_text(text: &[u8]) -> bool
     ensures { result ≡ all_text text.now }
 {
     let mut ok = true;
-    let mut i: usize = 0;
-    while i < text.len() {
-        ok = ok & is_text(text[i]);
-        i += 1;
+    for b in text {
+        ok &= is_text(*b);
     }
     ok
 }
 
-// Whether a payload is so many bytes of its message's own, a length byte, and so many text bytes, at most `most`.
-fn form_of(own: usize, most: usize, payload: &[u8]) -> Form
-    requires { own ≤ 3 }
-    ensures { told_form result ≡ forming own most payload.now }
+// The bytes of a message's own, OWN of them, and the text of a payload that is these, a length byte, and so many text bytes, at most `most`.
+fn form_of<const OWN: usize>(most: usize, payload: &[u8]) -> Result<(&[u8; OWN], &[u8]), Refusal>
+    ensures told { told_form result ≡ forming OWN most payload.now }
+    ensures parts { IfOk result (λ parts. (parts.0.now ≡ take OWN payload.now) × (parts.1.now ≡ behind OWN payload.now)) }
 {
-    let start = own + 1;
-    if payload.len() < start {
-        return Form::Refused(Refusal::BadTextLength);
+    let (own, rest) = payload.split_first_chunk().ok_or(Refusal::BadTextLength)?;
+    let (n, text) = rest.split_first().ok_or(Refusal::BadTextLength)?;
+    if text.len() != *n as usize || most < text.len() {
+        return Err(Refusal::BadTextLength);
     }
-    let n = payload[own] as usize;
-    if payload.len() != start + n {
-        return Form::Refused(Refusal::BadTextLength);
+    if !all_text(text) {
+        return Err(Refusal::BadText);
     }
-    if most < n {
-        return Form::Refused(Refusal::BadTextLength);
-    }
-    if !all_text(&payload[start..]) {
-        return Form::Refused(Refusal::BadText);
-    }
-    Form::Well
+    Ok((own, text))
 }
 
 // The text of a payload, as a part of it; empty where the payload is not well formed.
-fn text_of(own: usize, most: usize, payload: &[u8]) -> &[u8]
-    requires { own ≤ 3 }
-    ensures { result.now ≡ text_of own most payload.now }
+fn text_of<const OWN: usize>(most: usize, payload: &[u8]) -> &[u8]
+    requires { OWN ≤ 3 }
+    ensures { result.now ≡ text_of OWN most payload.now }
 {
-    match form_of(own, most, payload) {
-        Form::Well => {
-            let start = own + 1;
-            &payload[start..]
-        }
-        Form::Refused(_) => &payload[..0],
+    match form_of::<OWN>(most, payload) {
+        Ok((_, text)) => text,
+        Err(_) => &payload[..0],
     }
 }
 
 // Writes the message's own bytes, the text's length and the text at the front of out.
-fn write_text(most: usize, own: &[u8], text: &[u8], out: &mut [u8]) -> Writing
+fn write_text(most: usize, own: &[u8], text: &[u8], out: &mut [u8]) -> Result<usize, Refusal>
     requires most_bound { most ≤ 255 }
     requires own_len_bound { length own.now ≤ 3 }
     ensures { (told_written result ≡ write_text most own.now text.now (length out.old)) × (out.new ≡ laid (text_bytes most own.now text.now (length out.old)) out.old) }
 {
     let n = text.len();
     if most < n {
-        return Writing::Refused(Refusal::BadTextLength);
+        return Err(Refusal::BadTextLength);
     }
     if !all_text(text) {
-        return Writing::Refused(Refusal::BadText);
+        return Err(Refusal::BadText);
     }
     let start = own.len() + 1;
     if out.len() < start + n {
-        return Writing::Refused(Refusal::NoRoom);
+        return Err(Refusal::NoRoom);
     }
-    let length = [n as u8];
     ground::lay(out, 0, own);
-    ground::lay(out, own.len(), &length);
+    ground::lay(out, own.len(), &[n as u8]);
     ground::lay(out, start, text);
-    Writing::Written(start + n)
+    Ok(start + n)
 }
 
 // Reads a payload as that of a Set Display.
-pub fn read_display(payload: &[u8]) -> Display
+pub fn read_display(payload: &[u8]) -> Result<Message, Refusal>
     ensures { told_display result ≡ read_display payload.now }
 {
-    match form_of(1, DISPLAY_MOST, payload) {
-        Form::Well => Display::Message {
-            kind: payload[0],
-            length: payload[1] as usize,
-        },
-        Form::Refused(refusal) => Display::Refused(refusal),
-    }
+    let ([kind], text) = form_of::<1>(DISPLAY_MOST, payload)?;
+    Ok(Message {
+        kind: *kind,
+        length: text.len(),
+    })
 }
 
 // The message of a Set Display, as a part of its payload; empty where it is none.
 pub fn display_text(payload: &[u8]) -> &[u8]
     ensures { result.now ≡ display_text payload.now }
 {
-    text_of(1, DISPLAY_MOST, payload)
+    text_of::<1>(DISPLAY_MOST, payload)
 }
 
 // Writes the payload of a Set Display at the front of out.
-pub fn write_display(kind: u8, text: &[u8], out: &mut [u8]) -> Writing
+pub fn write_display(kind: u8, text: &[u8], out: &mut [u8]) -> Result<usize, Refusal>
     ensures { (told_written result ≡ write_display kind text.now (length out.old)) × (out.new ≡ laid (display_bytes kind text.now (length out.old)) out.old) }
 {
-    let own = [kind];
-    write_text(DISPLAY_MOST, &own, text, out)
+    write_text(DISPLAY_MOST, &[kind], text, out)
 }
 
 // Reads a payload as that of a Set Diagnostics.
-pub fn read_diagnostics(payload: &[u8]) -> Diagnostics
+pub fn read_diagnostics(payload: &[u8]) -> Result<Fault, Refusal>
     ensures { told_diagnostics result ≡ read_diagnostics payload.now }
 {
-    match form_of(3, DIAGNOSTICS_MOST, payload) {
-        Form::Well => Diagnostics::Fault {
-            kind: payload[0],
-            major: payload[1],
-            minor: payload[2],
-            length: payload[3] as usize,
-        },
-        Form::Refused(refusal) => Diagnostics::Refused(refusal),
-    }
+    let ([kind, major, minor], text) = form_of::<3>(DIAGNOSTICS_MOST, payload)?;
+    Ok(Fault {
+        kind: *kind,
+        major: *major,
+        minor: *minor,
+        length: text.len(),
+    })
 }
 
 // The fault message of a Set Diagnostics, as a part of its payload; empty where it is none.
 pub fn diagnostics_text(payload: &[u8]) -> &[u8]
     ensures { result.now ≡ diagnostics_text payload.now }
 {
-    text_of(3, DIAGNOSTICS_MOST, payload)
+    text_of::<3>(DIAGNOSTICS_MOST, payload)
 }
 
 // Writes the payload of a Set Diagnostics at the front of out.
-pub fn write_diagnostics(kind: u8, major: u8, minor: u8, text: &[u8], out: &mut [u8]) -> Writing
+pub fn write_diagnostics(
+    kind: u8,
+    major: u8,
+    minor: u8,
+    text: &[u8],
+    out: &mut [u8],
+) -> Result<usize, Refusal>
     ensures { (told_written result ≡ write_diagnostics kind major minor text.now (length out.old)) × (out.new ≡ laid (diagnostics_bytes kind major minor text.now (length out.old)) out.old) }
 {
-    let own = [kind, major, minor];
-    write_text(DIAGNOSTICS_MOST, &own, text, out)
+    write_text(DIAGNOSTICS_MOST, &[kind, major, minor], text, out)
 }
 
 // Whether a payload is that of the response to either message.
 pub fn is_reply(payload: &[u8]) -> bool
     ensures { result ≡ is_reply payload.now }
 {
-    if payload.len() != 2 {
-        return false;
-    }
-    (payload[0] == REPLY[0]) & (payload[1] == REPLY[1])
+    payload == REPLY.as_slice()
 }
 
 // What C is told of a payload that was refused.
@@ -212,11 +191,7 @@ fn refused(refusal: Refusal) -> TextNumbers
 {
     TextNumbers {
         refusal: refusal::number(refusal),
-        kind: 0,
-        major: 0,
-        minor: 0,
-        start: 0,
-        length: 0,
+        ..TextNumbers::default()
     }
 }
 
@@ -225,15 +200,13 @@ pub fn nadrelgos_read_display(payload: &[u8]) -> TextNumbers
     ensures { result ≡ display_numbers (read_display payload.now) }
 {
     match read_display(payload) {
-        Display::Message { kind, length } => TextNumbers {
-            refusal: 0,
-            kind: kind,
-            major: 0,
-            minor: 0,
+        Ok(Message { kind, length }) => TextNumbers {
+            kind,
             start: 2,
-            length: length,
+            length,
+            ..TextNumbers::default()
         },
-        Display::Refused(refusal) => refused(refusal),
+        Err(refusal) => refused(refusal),
     }
 }
 
@@ -242,20 +215,22 @@ pub fn nadrelgos_read_diagnostics(payload: &[u8]) -> TextNumbers
     ensures { result ≡ diagnostics_numbers (read_diagnostics payload.now) }
 {
     match read_diagnostics(payload) {
-        Diagnostics::Fault {
+        Ok(
+            Fault {
+                kind,
+                major,
+                minor,
+                length,
+            },
+        ) => TextNumbers {
+            refusal: 0,
             kind,
             major,
             minor,
-            length,
-        } => TextNumbers {
-            refusal: 0,
-            kind: kind,
-            major: major,
-            minor: minor,
             start: 4,
-            length: length,
+            length,
         },
-        Diagnostics::Refused(refusal) => refused(refusal),
+        Err(refusal) => refused(refusal),
     }
 }
 

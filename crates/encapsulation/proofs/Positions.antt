@@ -3,20 +3,18 @@ use Prim.Native.Nat.{ℕ, ◌+◌, ◌*◌, ◌≤◌}
 use native.Mathlib.Omega.{arith}
 use mathlib.Core.Path.{◌≡◌, refl, sym, ap, ◌∙◌}
 use mathlib.Core.Bool.{false}
-use mathlib.Core.List.{List, []}
+use mathlib.Core.List.{List, [], ◌∷◌}
 use lib.ListN.{length, get_or, take, drop, length-drop}
 use lib.Seq.{drop-drop, length-take-le}
 use Rattle.ground.proofs.Runs.{part_behind}
-use Rattle.refusal.specs.declared.Refusal.{Refusal}
+use Rattle.refusal.specs.Refusal.{gives}
 use Rattle.refusal.proofs.Numbers.{told_values, gives_not}
 use Rattle.frame.specs.Frame.{length_byte}
 use Rattle.frame.proofs.Told.{Read, passed_read}
 use Rattle.encapsulation.specs.declared.Level.{Level}
-use Rattle.encapsulation.specs.declared.Inside.{Inside}
-use Rattle.encapsulation.specs.declared.Inside.TheVariants.{Plain, Refused}
 use Rattle.encapsulation.specs.Message.{Message, is_encapsulation, most}
 use Rattle.encapsulation.specs.Unwrap.{Opened, plain, refused, message_of, unwrapping, payload_in}
-use Rattle.encapsulation.specs.Answer.{told_inside, told_opened}
+use Rattle.encapsulation.specs.Answer.{told_opened}
 use Rattle.encapsulation.specs.Making.{heads}
 use Rattle.encapsulation.proofs.Heads.{wrapped_payload, heads_length, wrapped_length}
 use Rattle.encapsulation.proofs.Exactly.{LiesIn}
@@ -53,13 +51,9 @@ plain_stands ours b ls m e = record { few = u.few; within = omega (arith, long, 
     whole = sym (length-take-le (length_byte b) (drop 10 b) (omega (arith, length-drop 10 b, long))) ∙ ap (λ (x : Message). length x.payload) u.lies ∙ wrapped_length ls m
 
 -- the same of what a call of the reader answered
-pub told_stands : (ours : ℕ) (b : List ℕ) {r : Inside} {depth message packet n : ℕ} → r ≡ Plain depth message packet n → told_inside r ≡ told_opened (unwrapping ours b) → Stands b (unwrapping ours b) depth n
-told_stands ours b {depth = depth} {message} {packet} {n} e t = go (unwrapping ours b) refl (ap told_inside (sym e) ∙ t)
+pub told_stands : (ours : ℕ) (b : List ℕ) (depth message packet n : ℕ) → gives (depth ∷ message ∷ packet ∷ n ∷ []) ≡ told_opened (unwrapping ours b) → Stands b (unwrapping ours b) depth n
+told_stands ours b depth message packet n e = go (unwrapping ours b) refl e
   where
-    go : (f : Opened) → unwrapping ours b ≡ f → told_inside (Plain depth message packet n) ≡ told_opened f → Stands b (unwrapping ours b) depth n
+    go : (f : Opened) → unwrapping ours b ≡ f → gives (depth ∷ message ∷ packet ∷ n ∷ []) ≡ told_opened f → Stands b (unwrapping ours b) depth n
     go (plain ls m) q s = rw (q, ap (λ (l : List ℕ). get_or l 0 0) (told_values s), ap (λ (l : List ℕ). get_or l 3 0) (told_values s)) (plain_stands ours b ls m q)
     go (refused x) q s = absurd (gives_not _ x s)
-
-pub told_nothing : (f : Opened) {r : Inside} {q : Refusal} → r ≡ Refused q → told_inside r ≡ told_opened f → payload_in f ≡ []
-told_nothing (plain ls m) {q = q} e t = absurd (gives_not _ q (sym (ap told_inside (sym e) ∙ t)))
-told_nothing (refused x) e t = refl

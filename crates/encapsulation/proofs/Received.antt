@@ -9,8 +9,8 @@ use Rattle.refusal.specs.Refusal.{refuses, gives}
 use Rattle.refusal.specs.declared.Refusal.{Refusal}
 use Rattle.refusal.proofs.Rules.{Passed, passed, unrefused, gave, refused as rules-refused}
 use Rattle.frame.specs.declared.Header.{Header}
-use Rattle.frame.specs.declared.Reading.{Reading}
-use Rattle.frame.specs.declared.Reading.TheVariants.{Frame, Refused}
+use Rattle.std.specs.Prelude.{Result, Ok, Err}
+use Rattle.frame.specs.declared.Frame.{Frame}
 use Rattle.frame.specs.Frame.{fields, header_of, length_byte, read_rules, reading, told, frame_of}
 use Rattle.frame.proofs.Told.{WellRead, well_read}
 use Rattle.frame.proofs.RoundTrip.{written_header, written_payload}
@@ -40,17 +40,17 @@ module _ (ours : ℕ) (b : List ℕ) where
   unwrap_plain_exactly ls m = ((λ e. let ok = unrefused (λ (f : Opened). f ≡ plain ls m) (read_rules ours b) refused (opened most (message_of b)) (λ q z. plain_not ls m q (sym z)) e in (ok, (opened_exactly most (message_of b) ls m).0 (sym (passed (read_rules ours b) refused (opened most (message_of b)) ok) ∙ e))), λ h. passed (read_rules ours b) refused (opened most (message_of b)) h.0 ∙ (opened_exactly most (message_of b) ls m).1 h.1)
 
   -- so what was answered of a frame that a call of the reader gave, or refused, is the answer
-  pub read_answers : {r : Reading} {h : Header} {n : ℕ} (part : List ℕ) (u : Unwrapped) → r ≡ Frame h n → told r ≡ reading ours b → part ≡ take n (drop 10 b) → u ≡ answer_of (opened most (record { message = h.message; packet = h.packet; payload = part })) → Answers u (unwrapping ours b)
-  read_answers {h = h} {n} part u e t p q = answers u (unwrapping ours b) (q ∙ ap answer_of (ap (opened most) own ∙ sym (frame_opened _ (sym (ap told (sym e) ∙ t)))))
+  pub read_answers : (f : Frame) (part : List ℕ) (r : Result Unwrapped Refusal) → told (Ok f) ≡ reading ours b → part ≡ take f.length (drop 10 b) → r ≡ answer_of (opened most (record { message = f.header.message; packet = f.header.packet; payload = part })) → Answers r (unwrapping ours b)
+  read_answers f part r t p q = answers r (unwrapping ours b) (q ∙ ap answer_of (ap (opened most) own ∙ sym (frame_opened _ (sym t))))
     where
-      w : WellRead ours b h n
-      w = well_read ours b h n (ap told (sym e) ∙ t)
+      w : WellRead ours b f
+      w = well_read ours b f t
 
-      own : record { message = h.message; packet = h.packet; payload = part } ≡ message_of b
+      own : record { message = f.header.message; packet = f.header.packet; payload = part } ≡ message_of b
       own = λ i. record { message = (w.header i).message; packet = (w.header i).packet; payload = (p ∙ ap (λ (k : ℕ). take k (drop 10 b)) w.count) i }
 
-  pub unread_answers : {r : Reading} {q : Refusal} (u : Unwrapped) → r ≡ Refused q → told r ≡ reading ours b → u ≡ answer_of (refused q) → Answers u (unwrapping ours b)
-  unread_answers {q = q} u e t a = answers u (unwrapping ours b) (a ∙ ap answer_of (sym (unread_opened q (sym (ap told (sym e) ∙ t)))))
+  pub unread_answers : (q : Refusal) → told (Err q) ≡ reading ours b → Answers (Err q) (unwrapping ours b)
+  unread_answers q t = answers (Err q) (unwrapping ours b) (ap answer_of (sym (unread_opened q (sym t))))
 
 -- the message of a frame that was written
 pub message_written : (h : Header) (p : List ℕ) → message_of (frame_of h p) ≡ sent h p

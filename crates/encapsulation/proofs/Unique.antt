@@ -3,8 +3,10 @@ use Prim.Native.Nat.{ℕ}
 use mathlib.Core.Path.{◌≡◌, sym, ◌∙◌}
 use mathlib.Core.List.{List}
 use denote.Ref.{Bor, MutBor}
+use Rattle.std.specs.Prelude.{Result}
+use Rattle.refusal.specs.declared.Refusal.{Refusal}
 use Rattle.frame.specs.declared.Header.{Header}
-use Rattle.frame.specs.declared.Writing.{Writing}
+use Rattle.frame.specs.Frame.{Writing}
 use Rattle.frame.specs.declared.WriteNumbers.{WriteNumbers}
 use Rattle.frame.proofs.Unique.{one_writing}
 use Rattle.encapsulation.specs.declared.Level.{Level}
@@ -23,7 +25,7 @@ use Rattle.encapsulation.proofs.nadrelgos_wrap.Reads as face-wrap
 abbrev Received : Type 0
 Received = ℕ × (Bor (List ℕ) × Unit {0})
 
-pub unique_unwrap : (κs : _) (a s t : Received) (r q : Unwrapped) → unwrap.Post κs a r s → unwrap.Post κs a q t → r ≡ q
+pub unique_unwrap : (κs : _) (a s t : Received) (r q : Result Unwrapped Refusal) → unwrap.Post κs a r s → unwrap.Post κs a q t → r ≡ q
 unique_unwrap κs a s t r q p p' = same_answer r q (unwrapping a.0 a.1.0.now) p p'
 
 pub unique_inner_payload : (κs a s t : _) (r q : Bor (List ℕ)) → inner-payload.Post κs a r s → inner-payload.Post κs a q t → r.now ≡ q.now

@@ -10,7 +10,7 @@ use Rattle.ground.specs.Bytes.{laid}
 use Rattle.refusal.specs.Refusal.{refuses}
 use Rattle.refusal.proofs.Rules.{Passed, passed}
 use Rattle.frame.specs.declared.Header.{Header}
-use Rattle.frame.specs.declared.Writing.{Writing}
+use Rattle.frame.specs.Frame.{Writing}
 use Rattle.frame.specs.Frame.{told_written, writing, written_bytes}
 use Rattle.encapsulation.specs.declared.Level.{Level}
 use Rattle.encapsulation.specs.declared.Front.{Front}

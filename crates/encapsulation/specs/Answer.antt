@@ -1,17 +1,20 @@
 -- What the reader answers of a frame that was unwrapped, in Rattle and in C (02, C-21; house).
-use Rattle.std.specs.Prelude.{◌+◌, ◌*◌, List, [], ◌∷◌, ◌++◌, length, take, replicate}
-use Rattle.refusal.specs.Refusal.{Told, number_of, refuses, gives}
+use Rattle.std.specs.Prelude.{ℕ, ◌+◌, ◌*◌, List, [], ◌∷◌, ◌++◌, length, take, replicate, Result}
+use Rattle.refusal.specs.Refusal.{Told, number_of, refuses, gives, says}
+use Rattle.refusal.specs.declared.Refusal.{Refusal}
 use Rattle.encapsulation.specs.declared.Level.{Level}
-use Rattle.encapsulation.specs.declared.Inside.{Inside}
-use Rattle.encapsulation.specs.declared.Inside.TheVariants.{Plain, Refused}
+use Rattle.encapsulation.specs.declared.Unwrapped.{Unwrapped}
 use Rattle.encapsulation.specs.declared.UnwrapNumbers.{UnwrapNumbers}
 use Rattle.encapsulation.specs.Message.{most}
 use Rattle.encapsulation.specs.Unwrap.{Opened, plain, refused}
 
--- what an answer says: the depth, the plain message's type and packet number, and its payload's length
-abbrev pub told_inside : Inside → Told
-told_inside (Plain depth message packet n) = gives (depth ∷ message ∷ packet ∷ n ∷ [])
-told_inside (Refused r) = refuses r
+-- the numbers of what was found inside: the depth, the plain message's type and packet number, and its payload's length
+abbrev pub inside_values : Unwrapped → List ℕ
+inside_values u = u.depth ∷ u.message ∷ u.packet ∷ u.length ∷ []
+
+-- what an answer says of it
+abbrev pub told_inside : Result Unwrapped Refusal → Told
+told_inside = says inside_values
 
 -- and what it says of an opened message: the depth is the number of its levels
 abbrev pub told_opened : Opened → Told

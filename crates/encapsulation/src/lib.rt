@@ -1,15 +1,15 @@
 // Messages inside messages: Network Encapsulation (0x7E), read and written, up to four levels deep.
 #![tactic(auto)]
 
-ghost use Rattle.std.specs.Prelude.{◌≡◌, [], ◌+◌, ◌*◌, ◌≤◌, ◌<◌, length, take};
+ghost use Rattle.std.specs.Prelude.{◌≡◌, ◌+◌, ◌*◌, ◌≤◌, ◌<◌, length, take, IfOk};
 ghost use Rattle.ground.specs.Bytes.{laid};
 ghost use Rattle.frame.specs.Frame.{told_written, write_numbers};
-ghost use Rattle.encapsulation.specs.Unwrap.{level_of, opened, opened_inside, unwrapping, payload_in, refused as Unwrap·refused};
-ghost use Rattle.encapsulation.specs.Wrap.{sent, carrying, wrapping, wrapped_bytes};
-ghost use Rattle.encapsulation.specs.Answer.{told_inside, told_opened, levels_in, placed, unwrap_numbers};
-ghost use Rattle.encapsulation.specs.Making.{Fronts, answer_of, depth_in, head_of, deeper as Making·deeper, plainly as Making·plainly};
+ghost use Rattle.encapsulation.specs.Unwrap.{opened, opened_inside, unwrapping, payload_in};
+ghost use Rattle.encapsulation.specs.Wrap.{sent, wrapping, wrapped_bytes};
+ghost use Rattle.encapsulation.specs.Answer.{told_inside, told_opened, levels_in, unwrap_numbers};
+ghost use Rattle.encapsulation.specs.Making.{Fronts, answer_of, head_of};
 
-use frame::{Header, Reading, WriteNumbers, Writing};
+use frame::{Frame, Header, WriteNumbers};
 use refusal::Refusal;
 
 // The message type of Network Encapsulation.
@@ -20,7 +20,7 @@ pub const MOST: usize = 4;
 
 // One level: its code and operands, and the packet number of the message that holds them.
 #[repr(C)]
-#[derive(Clone, Copy)]
+#[derive(Clone, Copy, Default)]
 pub struct Level {
     pub code: u8,
     pub operand1: u8,
@@ -29,36 +29,28 @@ pub struct Level {
     pub packet: u8,
 }
 
-// What is inside a frame: how deep the plain message lies, its type and packet number and its payload's length, or why there is none.
-#[derive(Clone, Copy)]
-pub enum Inside {
-    Plain {
-        depth: usize,
-        message: u8,
-        packet: u8,
-        length: usize,
-    },
-    Refused(Refusal),
-}
-
-// The same with its levels, from the outermost on; they are blank from the depth on, and all of them on a refusal.
+// What is inside a frame: the levels, from the outermost on and blank from the depth on, how deep the plain message lies, its type and packet
+// number, and its payload's length. Four levels and how many of them count: nothing is allocated, and C is given four.
 #[derive(Clone, Copy)]
 pub struct Unwrapped {
-    pub inside: Inside,
-    pub levels: [Level; 4],
+    pub levels: [Level; MOST],
+    pub depth: usize,
+    pub message: u8,
+    pub packet: u8,
+    pub length: usize,
 }
 
 // Four levels, for C, which hands no array over by value.
 #[repr(C)]
-#[derive(Clone, Copy)]
+#[derive(Clone, Copy, Default)]
 pub struct Levels {
-    pub levels: [Level; 4],
+    pub levels: [Level; MOST],
 }
 
-// An unwrapping, for C: the refusal's number or 0, how deep the plain message lies, its type and packet number, the levels, and where in the
-// received bytes its payload stands.
+// An unwrapping, as `nadrelgos_unwrap` tells C, which has no Result: the refusal's number or 0, how deep the plain message lies, its type and
+// packet number, the levels, and where in the received bytes its payload stands.
 #[repr(C)]
-#[derive(Clone, Copy)]
+#[derive(Clone, Copy, Default)]
 pub struct UnwrapNumbers {
     pub refusal: u8,
     pub depth: u8,
@@ -69,147 +61,76 @@ pub struct UnwrapNumbers {
     pub length: usize,
 }
 
-// Four places without a level.
-fn no_levels() -> [Level; 4]
-    ensures { result ≡ placed [] }
-{
-    let blank = Level {
-        code: 0,
-        operand1: 0,
-        operand2: 0,
-        operand3: 0,
-        packet: 0,
-    };
-    [blank; 4]
-}
-
-// An answer that refuses.
-fn refusing(refusal: Refusal) -> Unwrapped
-    ensures { result ≡ answer_of (Unwrap·refused refusal) }
-{
-    Unwrapped {
-        inside: Inside::Refused(refusal),
-        levels: no_levels(),
-    }
-}
-
-// An answer that gives a message in no level.
-fn plainly(message: u8, packet: u8, length: usize) -> Unwrapped
-    ensures { result ≡ Making·plainly message packet length }
-{
-    Unwrapped {
-        inside: Inside::Plain {
-            depth: 0,
-            message: message,
-            packet: packet,
-            length: length,
-        },
-        levels: no_levels(),
-    }
-}
-
-// An answer with one level more around what it tells.
-fn deeper(level: Level, inner: Unwrapped) -> Unwrapped
-    requires { depth_in inner.inside ≤ 4 }
-    ensures { result ≡ Making·deeper level inner }
-{
-    let inside = inner.inside;
-    let levels = inner.levels;
-    match inside {
-        Inside::Plain {
-            depth,
-            message,
-            packet,
-            length,
-        } => Unwrapped {
-            inside: Inside::Plain {
-                depth: depth + 1,
-                message: message,
-                packet: packet,
-                length: length,
-            },
-            levels: [level, levels[0], levels[1], levels[2]],
-        },
-        Inside::Refused(refusal) => refusing(refusal),
-    }
-}
-
-// The level of an encapsulation with this packet number and this payload.
-fn level_of(packet: u8, payload: &[u8]) -> Level
-    requires { 4 ≤ length payload.now }
-    ensures { result ≡ level_of packet payload.now }
-{
-    Level {
-        code: payload[0],
-        operand1: payload[1],
-        operand2: payload[2],
-        operand3: payload[3],
-        packet: packet,
-    }
-}
-
 // Reads a message, with so many levels left: a plain one is what is looked for, an encapsulation holds another in its payload.
 #[cycle(read_message_read_payload)]
-fn read_message(left: usize, message: u8, packet: u8, payload: &[u8]) -> Unwrapped
+fn read_message(left: usize, message: u8, packet: u8, payload: &[u8]) -> Result<Unwrapped, Refusal>
     requires { left ≤ 4 }
     ensures { result ≡ answer_of (opened left (record { message = message; packet = packet; payload = payload.now })) }
 {
     if message != ENCAPSULATION {
-        return plainly(message, packet, payload.len());
+        return Ok(Unwrapped {
+            levels: [Level::default(); MOST],
+            depth: 0,
+            message,
+            packet,
+            length: payload.len(),
+        });
     }
     if left == 0 {
-        return refusing(Refusal::TooDeep);
+        return Err(Refusal::TooDeep);
     }
     read_payload(left - 1, packet, payload)
 }
 
 // Reads the payload of an encapsulation, code, operands and one whole message, with so many levels left for that message.
 #[cycle(read_message_read_payload)]
-fn read_payload(left: usize, packet: u8, payload: &[u8]) -> Unwrapped
+fn read_payload(left: usize, packet: u8, payload: &[u8]) -> Result<Unwrapped, Refusal>
     requires { left < 4 }
     ensures { result ≡ answer_of (opened_inside (opened left) packet payload.now) }
 {
-    if payload.len() < 7 {
-        return refusing(Refusal::BadInner);
+    let [code, op1, op2, op3, message, number, n, inner @ ..] = payload else {
+        return Err(Refusal::BadInner);
+    };
+    if inner.len() != *n as usize {
+        return Err(Refusal::BadInner);
     }
-    let n = payload[6] as usize;
-    if payload.len() != 7 + n {
-        return refusing(Refusal::BadInner);
-    }
-    let inner = read_message(left, payload[4], payload[5], &payload[7..]);
-    deeper(level_of(packet, payload), inner)
+    let plain = read_message(left, *message, *number, inner)?;
+    let level = Level {
+        code: *code,
+        operand1: *op1,
+        operand2: *op2,
+        operand3: *op3,
+        packet,
+    };
+    let [first, second, third, _] = plain.levels;
+    Ok(Unwrapped {
+        levels: [level, first, second, third],
+        depth: plain.depth + 1,
+        ..plain
+    })
 }
 
 // Unwraps received bytes: reads them as one whole frame that a system with our subnet takes, and goes in to the plain message.
-pub fn unwrap(ours: u8, bytes: &[u8]) -> Unwrapped
-    ensures { (told_inside result.inside ≡ told_opened (unwrapping ours bytes.now)) × (result.levels ≡ levels_in (unwrapping ours bytes.now)) }
+pub fn unwrap(ours: u8, bytes: &[u8]) -> Result<Unwrapped, Refusal>
+    ensures told { told_inside result ≡ told_opened (unwrapping ours bytes.now) }
+    ensures levels { IfOk result (λ unwrapped. unwrapped.levels ≡ levels_in (unwrapping ours bytes.now)) }
 {
-    match frame::read(ours, bytes) {
-        Reading::Frame(header, n) => {
-            let end = 10 + n;
-            read_message(MOST, header.message, header.packet, &bytes[10..end])
-        }
-        Reading::Refused(refusal) => refusing(refusal),
-    }
+    let Frame { header, length } = frame::read(ours, bytes)?;
+    let end = 10 + length;
+    read_message(MOST, header.message, header.packet, &bytes[10..end])
 }
 
 // The plain message's payload, as a part of the received bytes; empty where there is none.
 pub fn inner_payload(ours: u8, bytes: &[u8]) -> &[u8]
     ensures { result.now ≡ payload_in (unwrapping ours bytes.now) }
 {
-    let inside = unwrap(ours, bytes).inside;
-    match inside {
-        Inside::Plain {
-            depth,
-            message: _,
-            packet: _,
-            length,
-        } => {
-            let start = 10 + 7 * depth;
-            let end = start + length;
+    match unwrap(ours, bytes) {
+        Ok(plain) => {
+            let start = 10 + 7 * plain.depth;
+            let end = start + plain.length;
             &bytes[start..end]
         }
-        Inside::Refused(_) => &bytes[..0],
+        Err(_) => &bytes[..0],
     }
 }
 
@@ -228,7 +149,8 @@ fn head_of(level: Level, message: u8, packet: u8, n: u8) -> [u8; 7]
     ]
 }
 
-// What a message in levels begins with: the bytes before the plain payload, and the outermost message's type and packet number.
+// What a message in levels begins with: the bytes before the plain payload, in room for four levels since nothing is allocated, and the outermost
+// message's type and packet number.
 #[derive(Clone, Copy)]
 struct Front {
     bytes: [u8; 28],
@@ -236,106 +158,77 @@ struct Front {
     packet: u8,
 }
 
-// Wraps the message of a frame in the first of the levels, from the innermost outwards.
-fn front_of(header: Header, levels: [Level; 4], depth: usize, payload: &[u8]) -> Front
-    requires depth_bound { depth ≤ 4 }
-    requires payload_bound { 7 * depth + length payload.now ≤ 240 }
-    ensures { Fronts result depth (take depth levels) (sent header payload.now) }
+// Wraps the message of a frame in these levels, from the innermost outwards.
+fn front_of(header: Header, levels: &[Level], payload: &[u8]) -> Front
+    requires depth_bound { length levels.now ≤ 4 }
+    requires payload_bound { 7 * length levels.now + length payload.now ≤ 240 }
+    ensures { Fronts result (length levels.now) levels.now (sent header payload.now) }
 {
-    let mut bytes = [0u8; 28];
-    let mut message = header.message;
-    let mut packet = header.packet;
-    let mut at = depth;
-    while 0 < at {
-        let n = 7 * (depth - at) + payload.len();
-        at -= 1;
+    let mut front = Front {
+        bytes: [0; 28],
+        message: header.message,
+        packet: header.packet,
+    };
+    let mut n = payload.len();
+    // By index: the proof is over the level from which the message is wrapped, and `enumerate().rev()` shows it only in what the iterator has left.
+    for at in (0..levels.len()).rev() {
         let level = levels[at];
-        let head = head_of(level, message, packet, n as u8);
-        ground::lay(&mut bytes, 7 * at, &head);
-        message = ENCAPSULATION;
-        packet = level.packet;
+        let head = head_of(level, front.message, front.packet, n as u8);
+        ground::lay(&mut front.bytes, 7 * at, &head);
+        front.message = ENCAPSULATION;
+        front.packet = level.packet;
+        n += 7;
     }
-    Front {
-        bytes: bytes,
-        message: message,
-        packet: packet,
-    }
-}
-
-// The header of a frame that carries a message of this type and packet number.
-fn carrying_header(header: Header, message: u8, packet: u8) -> Header
-    ensures { result ≡ carrying header message packet }
-{
-    Header {
-        destination: header.destination,
-        source: header.source,
-        subnet: header.subnet,
-        method: header.method,
-        parameter1: header.parameter1,
-        parameter2: header.parameter2,
-        kind: header.kind,
-        message: message,
-        packet: packet,
-    }
+    front
 }
 
 // Writes a frame at the front of out that carries the message of this header and payload in the first of the levels, as many as the depth says.
+// Levels and depth stay apart, as `nadrelgos_wrap` is handed them: a depth above four is refused here.
 pub fn wrap(
     header: Header,
-    levels: [Level; 4],
+    levels: [Level; MOST],
     depth: usize,
     payload: &[u8],
     out: &mut [u8],
-) -> Writing
+) -> Result<usize, Refusal>
     ensures { (told_written result ≡ wrapping header levels depth payload.now (length out.old)) × (out.new ≡ laid (wrapped_bytes header levels depth payload.now (length out.old)) out.old) }
 {
-    if MOST < depth {
-        return Writing::Refused(Refusal::TooDeep);
-    }
-    if header.message == ENCAPSULATION {
-        return Writing::Refused(Refusal::TooDeep);
+    if MOST < depth || header.message == ENCAPSULATION {
+        return Err(Refusal::TooDeep);
     }
     let m = 7 * depth;
     if 240 - m < payload.len() {
-        return Writing::Refused(Refusal::PayloadTooLong);
+        return Err(Refusal::PayloadTooLong);
     }
-    let front = front_of(header, levels, depth, payload);
-    let bytes = front.bytes;
-    let outer = carrying_header(header, front.message, front.packet);
-    frame::write_parts(outer, &bytes[..m], payload, out)
+    let front = front_of(header, &levels[..depth], payload);
+    let outer = Header {
+        message: front.message,
+        packet: front.packet,
+        ..header
+    };
+    frame::write_parts(outer, &front.bytes[..m], payload, out)
 }
 
 // What `unwrap` finds, for C.
 pub fn nadrelgos_unwrap(ours: u8, received: &[u8]) -> UnwrapNumbers
     ensures { result ≡ unwrap_numbers (unwrapping ours received.now) }
 {
-    let unwrapped = unwrap(ours, received);
-    let inside = unwrapped.inside;
-    let around = unwrapped.levels;
-    let levels = Levels { levels: around };
-    match inside {
-        Inside::Plain {
-            depth,
-            message,
-            packet,
-            length,
-        } => UnwrapNumbers {
-            refusal: 0,
-            depth: depth as u8,
-            message: message,
-            packet: packet,
-            levels: levels,
-            start: 10 + 7 * depth,
-            length: length,
-        },
-        Inside::Refused(refusal) => UnwrapNumbers {
+    match unwrap(ours, received) {
+        Ok(plain) => {
+            let levels = plain.levels;
+            UnwrapNumbers {
+                refusal: 0,
+                depth: plain.depth as u8,
+                message: plain.message,
+                packet: plain.packet,
+                levels: Levels { levels },
+                start: 10 + 7 * plain.depth,
+                length: plain.length,
+            }
+        }
+        Err(refusal) => UnwrapNumbers {
             refusal: refusal::number(refusal),
-            depth: 0,
-            message: 0,
-            packet: 0,
-            levels: levels,
-            start: 0,
-            length: 0,
+            ..UnwrapNumbers::default()
         },
     }
 }

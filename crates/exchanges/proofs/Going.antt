@@ -6,6 +6,7 @@ use mathlib.Core.Bool.{Bool, true, false, false≢true}
 use mathlib.Core.List.{List, []}
 use lib.Dec.{eqb, ltb}
 use borrow.Author.Tests.{eqb-true, eqb-false, ltb-true, ne_eqb}
+use Rattle.std.specs.Prelude.{Ok}
 use Rattle.ground.specs.Choose.{choose}
 use Rattle.refusal.specs.Refusal.{Told}
 use Rattle.refusal.specs.declared.Refusal.TheVariants.{NotAwaited, NotWaiting, NoRoom, UnexpectedType, BadEcho}
@@ -133,11 +134,11 @@ module _ (c₀ c : Coordinator) (t : List Node) (p q : ℕ) (f : Found) where
         some z = omega (arith, found_takes c t p f k.knows.1, k.from)
 
     -- what a frame does in identify, whether or not an ACK came
-    in_identify_lem : (part : Part) (acked : Bool) → wait_of part ≡ 6 → Stands c₀ part c t p q f → q ≡ p → f ≡ c.found → (acked ≡ false → Goes part a_frame (replied_as AckCame p c t (header_of b).packet (payload b) room)) → Goes part a_frame (replied_as (heard_in_identify (header_of b).message (payload b) acked) p c t (header_of b).packet (payload b) room)
+    in_identify_lem : (part : Part) (acked : Bool) → wait_of part ≡ 6 → Stands c₀ part c t p q f → q ≡ p → f ≡ c.found → (acked ≡ false → Goes part a_frame (replied_as (Ok AckCame) p c t (header_of b).packet (payload b) room)) → Goes part a_frame (replied_as (heard_in_identify (header_of b).message (payload b) acked) p c t (header_of b).packet (payload b) room)
     in_identify_lem part acked six k here same ack = identify_replied (λ r. Goes part a_frame (replied_as r p c t (header_of b).packet (payload b) room)) (never_accepted c t UnexpectedType) (header_of b).message (payload b) acked (λ first _ _ _. ack first) (λ _ _. identified_goes part six k here same)
 
     -- the first ACK goes on: he is heard
-    present_goes : Stands c₀ Identify c t p q f → Goes Identify a_frame (replied_as AckCame p c t (header_of b).packet (payload b) room)
+    present_goes : Stands c₀ Identify c t p q f → Goes Identify a_frame (replied_as (Ok AckCame) p c t (header_of b).packet (payload b) room)
     unfolding choose
     present_goes k _ = rw k.knows.0 (going Present (with_phase c (Seeking p Present)) (hear_mac t p (mac_after (payload b))) p p f (record { phase = phase_back (seeking p Present); from = k.from; over = k.over; knows = (refl, k.knows.1.0) }))
 

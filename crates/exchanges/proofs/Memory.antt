@@ -6,6 +6,7 @@ use mathlib.Core.Bool.{Bool, true, false, ◌&&◌, false≢true}
 use mathlib.Core.List.{List}
 use lib.Dec.{eqb, ltb}
 use borrow.Author.Tests.{eqb-false}
+use Rattle.std.specs.Prelude.{Result, Ok, Err}
 use Rattle.ground.specs.Choose.{choose}
 use Rattle.ground.proofs.Choices.{neither}
 use Rattle.frame.specs.declared.Header.{Header}
@@ -13,10 +14,11 @@ use Rattle.frame.specs.Frame.{header_of}
 use Rattle.board.specs.declared.Node.{Node}
 use Rattle.board.specs.Wanted.{some_listed}
 use Rattle.board.specs.Round.{next_listed}
+use Rattle.refusal.specs.declared.Refusal.{Refusal}
 use Rattle.accept.specs.declared.Heard.{Heard}
-use Rattle.accept.specs.declared.Heard.TheVariants.{Ack, Echo, Deliver, Route, Answer, Refused}
+use Rattle.accept.specs.declared.Heard.TheVariants.{Ack, Echo, Deliver, Route, Answer}
 use Rattle.accept.specs.declared.Reply.{Reply}
-use Rattle.accept.specs.declared.Reply.TheVariants.{Discovered, Present as AckCame, Identified, Assigned, Refused as NotTaken}
+use Rattle.accept.specs.declared.Reply.TheVariants.{Discovered, Present as AckCame, Identified, Assigned}
 use Rattle.coordinator.specs.declared.Coordinator.{Coordinator}
 use Rattle.coordinator.specs.declared.Exchange.{Exchange}
 use Rattle.coordinator.specs.declared.Exchange.TheVariants.{Offer, List as Listing, Forward, Return}
@@ -63,25 +65,25 @@ module _ (c : Coordinator) (t : List Node) where
   acked_remembers Return board requester u = refl
 
   -- so does whatever a wait for a board takes
-  taken_remembers : (x : Heard) (exchange : Exchange) (board requester : ℕ) (h : Header) (p : List ℕ) (room : ℕ) → Remembers c (taken_as x exchange board requester c t h p room)
-  taken_remembers Ack exchange board requester h p room = acked_remembers exchange board requester _
-  taken_remembers Echo exchange board requester h p room = by_choice (Remembers c) (ltb room 29) _ _ (λ _. refl) (λ _. refl)
-  taken_remembers Deliver exchange board requester h p room = by_choice (Remembers c) (ltb room 29) _ _ (λ _. refl) (λ _. refl)
-  taken_remembers Route exchange board requester h p room = by_choice (Remembers c) (ltb room 29) _ _ (λ _. refl) (λ _. by_choice (λ (d : Coordinator). d.searched ≡ c.searched) _ _ _ (λ _. refl) (λ _. refl))
-  taken_remembers Answer exchange board requester h p room = by_choice (Remembers c) (ltb room 29) _ _ (λ _. refl) (λ _. refl)
-  taken_remembers (Refused r) exchange board requester h p room = refl
+  taken_remembers : (x : Result Heard Refusal) (exchange : Exchange) (board requester : ℕ) (h : Header) (p : List ℕ) (room : ℕ) → Remembers c (taken_as x exchange board requester c t h p room)
+  taken_remembers (Ok Ack) exchange board requester h p room = acked_remembers exchange board requester _
+  taken_remembers (Ok Echo) exchange board requester h p room = by_choice (Remembers c) (ltb room 29) _ _ (λ _. refl) (λ _. refl)
+  taken_remembers (Ok Deliver) exchange board requester h p room = by_choice (Remembers c) (ltb room 29) _ _ (λ _. refl) (λ _. refl)
+  taken_remembers (Ok Route) exchange board requester h p room = by_choice (Remembers c) (ltb room 29) _ _ (λ _. refl) (λ _. by_choice (λ (d : Coordinator). d.searched ≡ c.searched) _ _ _ (λ _. refl) (λ _. refl))
+  taken_remembers (Ok Answer) exchange board requester h p room = by_choice (Remembers c) (ltb room 29) _ _ (λ _. refl) (λ _. refl)
+  taken_remembers (Err r) exchange board requester h p room = refl
 
   -- a response that ends the exchange by which a board joins
   settled_remembers : (position : ℕ) (f : Found) (room : ℕ) → Remembers c (settled c t position f room)
   settled_remembers position f room = by_choice (Remembers c) (ltb room 29) _ _ (λ _. refl) (λ _. by_choice (Remembers c) (eqb (join_found c t f).joined position) _ _ (λ _. join_remembers (ended c) t f.kind f.mac f.session f.version) (λ _. refl))
 
   -- and whatever that exchange takes
-  replied_remembers : (x : Reply) (position packet : ℕ) (p : List ℕ) (room : ℕ) → Remembers c (replied_as x position c t packet p room)
-  replied_remembers Discovered position packet p room = by_choice (Remembers c) _ _ _ (λ _. refl) (λ _. refl)
-  replied_remembers AckCame position packet p room = refl
-  replied_remembers Identified position packet p room = settled_remembers position _ room
-  replied_remembers Assigned position packet p room = settled_remembers position _ room
-  replied_remembers (NotTaken r) position packet p room = refl
+  replied_remembers : (x : Result Reply Refusal) (position packet : ℕ) (p : List ℕ) (room : ℕ) → Remembers c (replied_as x position c t packet p room)
+  replied_remembers (Ok Discovered) position packet p room = by_choice (Remembers c) _ _ _ (λ _. refl) (λ _. refl)
+  replied_remembers (Ok AckCame) position packet p room = refl
+  replied_remembers (Ok Identified) position packet p room = settled_remembers position _ room
+  replied_remembers (Ok Assigned) position packet p room = settled_remembers position _ room
+  replied_remembers (Err r) position packet p room = refl
 
   -- a frame in any phase
   in_remembers : (phase : Phase) (h : Header) (p : List ℕ) (room : ℕ) → Remembers c (taken_in phase c t h p room)

@@ -7,7 +7,7 @@ use mathlib.Core.List.{List}
 use lib.ListN.{length, take, drop}
 use lib.Dec.{leb}
 use borrow.Author.Tests.{leb-true, le-leb}
-use Rattle.ground.proofs.Choices.{and_left, and_right, and_yes, and_no, both, not_left}
+use Rattle.ground.proofs.Choices.{and_left, and_right, both, not_left}
 use Rattle.fletcher.specs.Fletcher.{is_good}
 use Rattle.frame.specs.Frame.{takes_subnet}
 use Rattle.finder.specs.Finder.{length_at, subnet_at, holds_frame}
@@ -34,18 +34,12 @@ module _ (ours : ℕ) (s : List ℕ) (i : ℕ) where
   unfolding holds_frame
   begun = ap (λ (x : Bool). takes_subnet ours (subnet_at s i) && x) (and_grouped (leb (length_at s i) 240) _ _) ∙ and_grouped (takes_subnet ours (subnet_at s i)) (has_room s i) _
 
-  pub begins : (good : Bool) → can_begin ours s i ≡ true → good ≡ is_good (take (12 + length_at s i) (drop i s)) → good ≡ holds_frame ours s i
-  begins good h e = and_yes (can_begin ours s i) _ good h e ∙ sym begun
-
-  pub begins_not : can_begin ours s i ≡ false → false ≡ holds_frame ours s i
-  begins_not h = and_no (can_begin ours s i) _ h ∙ sym begun
-
   -- "passes over such frames as if not good" (02, C-14)
   pub passed_over : takes_subnet ours (subnet_at s i) ≡ false → holds_frame ours s i ≡ false
-  passed_over e = sym (begins_not (not_left (takes_subnet ours (subnet_at s i)) (has_room s i) e))
+  passed_over e = begun ∙ not_left (can_begin ours s i) _ (not_left (takes_subnet ours (subnet_at s i)) (has_room s i) e)
 
   -- what it says of a start that one can begin there
-  pub begins_in : can_begin ours s i ≡ true → Room s i
+  begins_in : can_begin ours s i ≡ true → Room s i
   begins_in h = record { small = leb-true _ _ (and_left (leb (length_at s i) 240) _ has); inside = omega (arith, leb-true (12 + length_at s i) (length s - i) (and_right (leb (length_at s i) 240) _ has)) }
     where
       has : has_room s i ≡ true

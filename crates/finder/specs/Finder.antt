@@ -1,5 +1,5 @@
 -- The frame finder (01, "Finder"; 02, C-14).
-use Rattle.std.specs.Prelude.{ℕ, ◌+◌, ◌-◌, min, Bool, ◌&&◌, List, [], ◌∷◌, length, take, drop, leb, ltb}
+use Rattle.std.specs.Prelude.{ℕ, ◌+◌, ◌-◌, ◌<◌, ◌≡◌, min, Bool, true, false, ◌&&◌, Option, Some, None, List, [], ◌∷◌, length, take, drop, leb, ltb}
 use Rattle.ground.specs.Choose.{choose}
 use Rattle.ground.specs.Below.{first_or, up_from}
 use Rattle.refusal.specs.Refusal.{Told}
@@ -25,6 +25,11 @@ unfoldable pub holds_frame : ℕ → List ℕ → ℕ → Bool
 holds_frame ours s i =
     takes_subnet ours (subnet_at s i) &&
     (leb (length_at s i) 240 && (leb (12 + length_at s i) (length s - i) && is_good (take (12 + length_at s i) (drop i s))))
+
+-- of the first n starts none holds a good frame, or this is the first that does (house)
+abbrev pub IsFirst : ℕ → List ℕ → ℕ → Option ℕ → Type 0
+IsFirst ours s n None = (j : ℕ) → j < n → holds_frame ours s j ≡ false
+IsFirst ours s n (Some i) = (i < n) × (holds_frame ours s i ≡ true) × ((j : ℕ) → j < i → holds_frame ours s j ≡ false)
 
 -- how many starts are tried at most
 abbrev pub limit : List ℕ → ℕ → ℕ

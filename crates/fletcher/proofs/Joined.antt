@@ -7,9 +7,9 @@ use mathlib.Core.List.{List, [], ◌++◌}
 use lib.ListN.{length, length-append}
 use Rattle.fletcher.specs.declared.Sums.{Sums}
 use Rattle.fletcher.specs.declared.Run.{Run}
-use Rattle.fletcher.specs.Fletcher.{seed, sums_from}
+use Rattle.fletcher.specs.Fletcher.{seed, sums_from, reduced}
 use Rattle.fletcher.specs.Joined.{none, run_of, joined, started, sums_of, published, seed_off, Joining}
-use Rattle.fletcher.proofs.Laws.{sums_append, Small, sums_small, seed_small, reduced, small_reduced}
+use Rattle.fletcher.proofs.Laws.{sums_append, Small, sums_small, seed_small, small_reduced}
 use Rattle.fletcher.proofs.Factors.{multiple}
 use Rattle.fletcher.proofs.Shifted.{shifted, carried}
 

@@ -5,16 +5,15 @@ use native.Mathlib.Numerals.{add-one}
 use mathlib.Core.Path.{◌≡◌, refl, sym, ap, ◌∙◌}
 use mathlib.Core.Bool.{true, ◌&&◌}
 use mathlib.Core.List.{List, [], ◌∷◌, ◌++◌}
-use lib.ListN.{length, get_or, take, drop}
-use lib.Seq.{take-suc, take-add, take-length}
+use lib.ListN.{length, get_or, take}
+use lib.Seq.{take-suc, take-length}
 use lib.Dec.{eqb}
-use borrow.Author.Rules.{rules}
 use borrow.Author.Tests.{eq-eqb, ne_eqb, eqb-true}
 use native.Mathlib.Decide.{ℕ_discrete}
 use Rattle.ground.specs.Choose.{choose}
 use Rattle.ground.proofs.Choices.{both, and_left, and_right}
 use Rattle.fletcher.specs.declared.Sums.{Sums}
-use Rattle.fletcher.specs.Fletcher.{seed, added, sums_from, sums, is_good, first_check, second_check, check_bytes, never_zero}
+use Rattle.fletcher.specs.Fletcher.{seed, added, sums_from, reduced, sums, is_good, first_check, second_check, check_bytes, never_zero}
 
 -- the sums over bytes put together continue from the sums over the first
 pub sums_append : (s : Sums) (xs ys : List ℕ) → sums_from s (xs ++ ys) ≡ sums_from (sums_from s xs) ys
@@ -147,9 +146,6 @@ only_check bs c d hc hd g = rw (second_is (sums bs) c d small hc hd one two, fir
     two = ap (λ (x : Sums). x.second) (sym over) ∙ good_second (bs ++ c ∷ d ∷ []) g
 
 -- sums of which the remainders are still to be taken
-abbrev pub reduced : ℕ → ℕ → Sums
-reduced f g = record { first = f % 255; second = g % 255 }
-
 reduced_added : (f g b : ℕ) → reduced (f + b) (g + (f + b)) ≡ added (reduced f g) b
 reduced_added f g b = λ i. record { first = one i; second = two i }
   where
@@ -170,9 +166,9 @@ small_reduced s h l = λ i. record { first = one i; second = two i }
     two = omega arith
 
 -- a loop that adds the bytes one by one and takes the remainders at its end: the first i are done
-pub reduced_none : (s : Sums) (bs : List ℕ) → s.first < 255 → s.second < 255 → reduced s.first s.second ≡ sums_from s (take 0 bs)
+pub reduced_none : (s : Sums) → s.first < 255 → s.second < 255 → reduced s.first s.second ≡ sums_from s []
 unfolding sums_from
-reduced_none s bs h l = small_reduced s h l
+reduced_none s h l = small_reduced s h l
 
 pub reduced_step : (s : Sums) (bs : List ℕ) (i b f g : ℕ) → reduced f g ≡ sums_from s (take i bs) → i < length bs → b ≡ get_or bs i 0 → reduced (f + b) (g + (f + b)) ≡ sums_from s (take (i + 1) bs)
 unfolding sums_from
@@ -181,18 +177,14 @@ reduced_step s bs i b f g h l e = rw (add-one, take-suc bs i 0 l, sums_append s 
 pub reduced_end : (s : Sums) (bs : List ℕ) (i f g : ℕ) → reduced f g ≡ sums_from s (take i bs) → i ≤ length bs → length bs ≤ i → reduced f g ≡ sums_from s bs
 reduced_end s bs i f g h a b = h ∙ rw (let e : i ≡ length bs = omega arith in e) (rw (take-length bs) refl)
 
--- a loop that continues the sums over one stretch after another: the first i bytes are done
-pub sums_none : (s : Sums) (bs : List ℕ) → s ≡ sums_from s (take 0 bs)
+-- a loop that continues the sums over one part after another: from the sums over the part, those over the rest are those over both
+pub sums_parts : (s : Sums) (part rest : List ℕ) → sums_from (sums_from s part) rest ≡ sums_from s (part ++ rest)
+sums_parts s part rest = sym (sums_append s part rest)
+
+pub sums_done : (s : Sums) (rest : List ℕ) → length rest ≡ 0 → sums_from s rest ≡ s
 unfolding sums_from
-sums_none s bs = refl
+sums_done s [] h = refl
+sums_done s (x ∷ rest) h = absurd (let z : ⊥ = omega arith in z)
 
-pub sums_stretch : (s : Sums) (bs : List ℕ) (i e : ℕ) (t r : Sums) → i ≤ e → t ≡ sums_from s (take i bs) → r ≡ sums_from t (take (e - i) (drop i bs)) → r ≡ sums_from s (take e bs)
-sums_stretch s bs i e t r l h q =
-    rw (let b : e ≡ i + (e - i) = omega arith in b)
-    (rw (take-add i (e - i) bs, sums_append s (take i bs) (take (e - i) (drop i bs)), ← h) q)
-
-pub sums_end : (s : Sums) (bs : List ℕ) (i : ℕ) (t : Sums) → t ≡ sums_from s (take i bs) → i ≤ length bs → length bs ≤ i → t ≡ sums_from s bs
-sums_end s bs i t h a b = h ∙ rw (let e : i ≡ length bs = omega arith in e) (rw (take-length bs) refl)
-
--- what closes each need of such loops
-pub ruleset summing = (rules, reduced_none, reduced_step, reduced_end, sums_none, sums_stretch, sums_end)
+-- what closes such loops
+pub ruleset summing = (reduced_none, reduced_step, reduced_end, sums_parts, sums_done)

@@ -6,8 +6,7 @@ use mathlib.Core.Path.{◌≡◌, ap, ◌∙◌}
 use mathlib.Core.List.{List, [], ◌∷◌}
 use lib.ListN.{length}
 use Rattle.fletcher.specs.declared.Sums.{Sums}
-use Rattle.fletcher.specs.Fletcher.{added, sums_from}
-use Rattle.fletcher.proofs.Laws.{reduced}
+use Rattle.fletcher.specs.Fletcher.{added, sums_from, reduced}
 
 -- sums with e added to the first and g to the second
 abbrev pub shifted : Sums → ℕ → ℕ → Sums

@@ -9,9 +9,8 @@ use lib.ListN.{length, length-append}
 use lib.Dec.{eqb}
 use Rattle.fletcher.specs.declared.Sums.{Sums}
 use Rattle.fletcher.specs.declared.Run.{Run}
-use Rattle.fletcher.specs.Fletcher.{added, sums_from, sums, is_good}
+use Rattle.fletcher.specs.Fletcher.{added, sums_from, reduced, sums, is_good}
 use Rattle.fletcher.specs.Joined.{none, run_of, joined, started, sums_of, is_good_run, unreduced}
-use Rattle.fletcher.proofs.Laws.{reduced}
 use Rattle.fletcher.proofs.Joined.{run, continued_joined, seed_once_lem}
 
 -- two of them put together

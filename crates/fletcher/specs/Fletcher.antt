@@ -16,6 +16,10 @@ unfoldable pub sums_from : Sums → List ℕ → Sums
 sums_from s [] = s
 sums_from s (b ∷ bs) = sums_from (added s b) bs
 
+-- sums with the remainders taken (house)
+abbrev pub reduced : ℕ → ℕ → Sums
+reduced first second = record { first = first % 255; second = second % 255 }
+
 -- the sums over bytes
 abbrev pub sums : List ℕ → Sums
 sums bs = sums_from seed bs

@@ -2,7 +2,7 @@
 #![tactic(auto)]
 
 ghost use Rattle.std.specs.Prelude.{◌≡◌, ◌-◌, ◌*◌, ◌/◌, ◌%◌, ◌<◌, ◌≤◌, length};
-ghost use Rattle.fletcher.specs.Fletcher.{seed, sums_from, sums, is_good, check_bytes};
+ghost use Rattle.fletcher.specs.Fletcher.{seed, sums_from, reduced, sums, is_good, check_bytes};
 ghost use Rattle.fletcher.specs.Joined.{run_of, joined, started, sums_of, closing, is_good_run};
 
 // The two sums. Each is below 255 wherever this crate made them.
@@ -18,13 +18,6 @@ pub struct Run {
     pub first: u32,
     pub second: u32,
     pub length: u32,
-}
-
-// A byte as a number that has room for sums.
-fn wide(b: u8) -> u32
-    ensures { (result ≡ b) × (result < 256) }
-{
-    b as u32
 }
 
 // The remainder by 255 of a number below 510: 255 is subtracted where it is in it.
@@ -54,38 +47,56 @@ fn remainder(sum: u32) -> u32
     less_255(rest)
 }
 
-// The sums continued over few enough bytes that they have room to grow: one remainder of each at the end does for all.
-fn continued(s: Sums, bytes: &[u8]) -> Sums
-    requires { (s.first < 255) × (s.second < 255) × (length bytes.now ≤ 4096) }
-    ensures { (result ≡ sums_from s bytes.now) × (result.first < 255) × (result.second < 255) }
-{
-    let mut first = s.first;
-    let mut second = s.second;
-    let mut i: usize = 0;
-    while i < bytes.len() {
-        first += wide(bytes[i]);
-        second += first;
-        i += 1;
-    }
-    Sums {
-        first: remainder(first),
-        second: remainder(second),
-    }
+// Sums of which the remainders are taken.
+// `Sums` itself has no such invariant: `check_after` is given sums of any size, and other crates make their own.
+#[derive(Clone, Copy)]
+struct Reduced {
+    sums: Sums,
+    ghost first: { sums.first < 255 },
+    ghost second: { sums.second < 255 },
 }
 
-// The sums continued over any bytes.
-fn sums_after(before: Sums, bytes: &[u8]) -> Sums
-    requires { (before.first < 255) × (before.second < 255) }
-    ensures { (result ≡ sums_from before bytes.now) × (result.first < 255) × (result.second < 255) }
-{
-    let mut s = before;
-    let mut i: usize = 0;
-    while i < bytes.len() {
-        let end = i + ground::least(bytes.len() - i, 4096);
-        s = continued(s, &bytes[i..end]);
-        i = end;
+impl Reduced {
+    // The remainders of sums.
+    fn new(sums: Sums) -> Reduced
+        ensures { result.sums ≡ reduced sums.first sums.second }
+    {
+        Reduced {
+            sums: Sums {
+                first: remainder(sums.first),
+                second: remainder(sums.second),
+            },
+        }
     }
-    s
+
+    // These sums continued over few enough bytes that they have room to grow: one remainder of each at the end does for all.
+    #[tactic(auto, using(crate::proofs::Laws::summing))]
+    fn continued(self, bytes: &[u8]) -> Reduced
+        requires { length bytes.now ≤ 4096 }
+        ensures { result.sums ≡ sums_from self.sums bytes.now }
+    {
+        let Sums {
+            mut first,
+            mut second,
+        } = self.sums;
+        for byte in bytes {
+            first += u32::from(*byte);
+            second += first;
+        }
+        Reduced::new(Sums { first, second })
+    }
+
+    // These sums continued over any bytes.
+    #[tactic(auto, using(crate::proofs::Laws::summing))]
+    fn after(self, bytes: &[u8]) -> Reduced
+        ensures { result.sums ≡ sums_from self.sums bytes.now }
+    {
+        let mut reduced = self;
+        for part in bytes.chunks(4096) {
+            reduced = reduced.continued(part);
+        }
+        reduced
+    }
 }
 
 // What the sums over a frame start at.
@@ -102,7 +113,7 @@ pub fn seed() -> Sums
 pub fn sums_over(bytes: &[u8]) -> Sums
     ensures { (result ≡ sums bytes.now) × (result.first < 255) × (result.second < 255) }
 {
-    sums_after(seed(), bytes)
+    Reduced { sums: seed() }.after(bytes).sums
 }
 
 // Whether bytes, their check bytes among them, are a good frame's.
@@ -110,37 +121,30 @@ pub fn good(bytes: &[u8]) -> bool
     ensures { result ≡ is_good bytes.now }
 {
     let s = sums_over(bytes);
-    (s.first == 0) & (s.second == 0)
+    s.first == 0 && s.second == 0
 }
 
 // Whether a run is a good frame's. The seed's 170 and 85 make 255; few runs pass that test, and only they are tested further.
 pub fn good_run(run: Run) -> bool
     ensures { result ≡ is_good_run run }
 {
-    if remainder(run.first) == 85 {
-        remainder(remainder(run.second) + remainder(run.length) * 170) == 0
-    } else {
-        false
-    }
+    remainder(run.first) == 85
+        && remainder(remainder(run.second) + remainder(run.length) * 170) == 0
 }
 
 // The two check bytes after bytes, where the sums over all before these bytes are given.
+#[tactic(auto, using(crate::proofs::Joined::continued_joined))]
 pub fn check_after(before: Sums, bytes: &[u8]) -> [u8; 2]
     ensures { result ≡ closing (sums_of (joined (started before) (run_of bytes.now))) }
 {
-    let s = sums_after(
-        Sums {
-            first: remainder(before.first),
-            second: remainder(before.second),
-        },
-        bytes,
-    );
+    let s = Reduced::new(before).after(bytes).sums;
     let first = 255 - less_255(s.first + s.second);
     let second = 255 - less_255(s.first + first);
     [first as u8, second as u8]
 }
 
 // The two check bytes that make these bytes good.
+#[tactic(auto, using(crate::proofs::Joined::seed_once_lem))]
 pub fn check_bytes(bytes: &[u8]) -> [u8; 2]
     ensures { result ≡ check_bytes bytes.now }
 {

@@ -10,8 +10,7 @@ use Rattle.ground.specs.Bytes.{laid, fitting}
 use Rattle.refusal.proofs.Rules.{passed}
 use Rattle.fletcher.specs.Fletcher.{seed}
 use Rattle.frame.specs.declared.Header.{Header}
-use Rattle.frame.specs.declared.Writing.{Writing}
-use Rattle.frame.specs.Frame.{begun, write_rules, writing, written_bytes, frame_of, told_written}
+use Rattle.frame.specs.Frame.{begun, write_rules, writing, written_bytes, frame_of, Writing, told_written}
 use Rattle.frame.specs.ReadyHeader.{closed_bytes}
 use Rattle.frame.proofs.Laying.{begun_long, begun_is, begun_past}
 use Rattle.frame.proofs.ReadyHeader.{from_seed}

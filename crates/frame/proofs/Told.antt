@@ -9,15 +9,13 @@ use borrow.Author.Tests.{ltb-false, le-ltb, eqb-true, eq-eqb, not-false}
 use Rattle.ground.proofs.Choices.{not_no}
 use Rattle.refusal.specs.Refusal.{gives}
 use Rattle.refusal.specs.declared.Refusal.{Refusal}
-use Rattle.refusal.proofs.Numbers.{told_values, same_refused, gives_not}
+use Rattle.refusal.proofs.Numbers.{same_said, same_counts}
 use Rattle.refusal.proofs.Rules.{Passed, passed_both, passed, gave, refused}
 use Rattle.fletcher.specs.Fletcher.{is_good}
 use Rattle.frame.specs.declared.Header.{Header}
-use Rattle.frame.specs.declared.Reading.{Reading}
-use Rattle.frame.specs.declared.Reading.TheVariants.{Frame, Refused}
-use Rattle.frame.specs.declared.Writing.{Writing}
-use Rattle.frame.specs.declared.Writing.TheVariants.{Written, Refused as NotWritten}
-use Rattle.frame.specs.Frame.{fields, header_of, length_byte, takes_subnet, whole_rules, subnet_rules, read_rules, reading, payload_of, told, told_written}
+use Rattle.frame.specs.declared.Frame.{Frame}
+use Rattle.std.specs.Prelude.{Ok, Err}
+use Rattle.frame.specs.Frame.{fields, header_of, length_byte, takes_subnet, whole_rules, subnet_rules, read_rules, reading, payload_of, frame_values, Reading, Writing, told, told_written}
 
 -- the fields tell the header
 pub same_header : (h g : Header) (n m : ℕ) → fields h ++ n ∷ [] ≡ fields g ++ m ∷ [] → h ≡ g
@@ -40,19 +38,16 @@ same_header h g n m e =
 pub same_count : (h g : Header) (n m : ℕ) → fields h ++ n ∷ [] ≡ fields g ++ m ∷ [] → n ≡ m
 same_count h g n m e = ap (λ (l : List ℕ). get_or l 9 0) e
 
--- two readings that say the same are the same
-pub same_told : (r q : Reading) → told r ≡ told q → r ≡ q
-same_told (Frame h n) (Frame g m) e = λ i. Frame (same_header h g n m (told_values e) i) (same_count h g n m (told_values e) i)
-same_told (Frame h n) (Refused q) e = absurd (gives_not _ q e)
-same_told (Refused r) (Frame g m) e = absurd (gives_not _ r (sym e))
-same_told (Refused r) (Refused q) e = ap Refused (same_refused r q e)
+-- its numbers tell a frame that was read
+same_frame : (f g : Frame) → frame_values f ≡ frame_values g → f ≡ g
+same_frame f g e = λ i. record { header = same_header f.header g.header f.length g.length e i; length = same_count f.header g.header f.length g.length e i }
 
--- two writings that say the same are the same
+-- two readings that say the same are the same, and two writings
+pub same_told : (r q : Reading) → told r ≡ told q → r ≡ q
+same_told = same_said frame_values same_frame
+
 pub same_written : (r q : Writing) → told_written r ≡ told_written q → r ≡ q
-same_written (Written n) (Written m) e = ap (λ (l : List ℕ). Written (get_or l 0 0)) (told_values e)
-same_written (Written n) (NotWritten q) e = absurd (gives_not _ q e)
-same_written (NotWritten r) (Written m) e = absurd (gives_not _ r (sym e))
-same_written (NotWritten r) (NotWritten q) e = ap NotWritten (same_refused r q e)
+same_written = same_counts
 
 -- what holds of bytes that are a frame, whatever its subnet
 pub record Whole (b : List ℕ) : Type 0 where
@@ -94,33 +89,33 @@ unfolding reading
 read_values ours b vs e = (gave (read_rules ours b) (fields (header_of b) ++ length_byte b ∷ []) vs e).1
 
 -- a frame that was read: its bytes are whole, and the header and the count are theirs
-pub record WellRead (ours : ℕ) (b : List ℕ) (h : Header) (n : ℕ) : Type 0 where
+pub record WellRead (ours : ℕ) (b : List ℕ) (f : Frame) : Type 0 where
   pub bytes : Whole b
-  pub header : h ≡ header_of b
-  pub count : n ≡ length_byte b
-  pub part : payload_of ours b ≡ take n (drop 10 b)
+  pub header : f.header ≡ header_of b
+  pub count : f.length ≡ length_byte b
+  pub part : payload_of ours b ≡ take f.length (drop 10 b)
 
-pub well_read : (ours : ℕ) (b : List ℕ) (h : Header) (n : ℕ) → told (Frame h n) ≡ reading ours b → WellRead ours b h n
+pub well_read : (ours : ℕ) (b : List ℕ) (f : Frame) → told (Ok f) ≡ reading ours b → WellRead ours b f
 unfolding reading payload_of
-well_read ours b h n e =
+well_read ours b f e =
     record {
       bytes = (passed_read ours b g.0).bytes;
-      header = sym (same_header (header_of b) h (length_byte b) n g.1);
-      count = sym (same_count (header_of b) h (length_byte b) n g.1);
-      part = passed (read_rules ours b) (λ r. []) (take (length_byte b) (drop 10 b)) g.0 ∙ ap (λ (m : ℕ). take m (drop 10 b)) (same_count (header_of b) h (length_byte b) n g.1);
+      header = sym (same_header (header_of b) f.header (length_byte b) f.length g.1);
+      count = sym (same_count (header_of b) f.header (length_byte b) f.length g.1);
+      part = passed (read_rules ours b) (λ r. []) (take (length_byte b) (drop 10 b)) g.0 ∙ ap (λ (m : ℕ). take m (drop 10 b)) (same_count (header_of b) f.header (length_byte b) f.length g.1);
     }
   where
-    g : Passed (read_rules ours b) × (fields (header_of b) ++ length_byte b ∷ [] ≡ fields h ++ n ∷ [])
-    g = gave (read_rules ours b) (fields (header_of b) ++ length_byte b ∷ []) (fields h ++ n ∷ []) (sym e)
+    g : Passed (read_rules ours b) × (fields (header_of b) ++ length_byte b ∷ [] ≡ frame_values f)
+    g = gave (read_rules ours b) (fields (header_of b) ++ length_byte b ∷ []) (frame_values f) (sym e)
 
 -- bytes that were refused have no payload
-pub no_payload : (ours : ℕ) (b : List ℕ) (q : Refusal) → told (Refused q) ≡ reading ours b → payload_of ours b ≡ []
+pub no_payload : (ours : ℕ) (b : List ℕ) (q : Refusal) → told (Err q) ≡ reading ours b → payload_of ours b ≡ []
 unfolding reading payload_of
 no_payload ours b q e = refused (read_rules ours b) (fields (header_of b) ++ length_byte b ∷ []) (λ r. []) (take (length_byte b) (drop 10 b)) q (sym e)
 
 -- the same of what a call of the reader gave
-pub read_frame : {r : Reading} {h : Header} {n : ℕ} (ours : ℕ) (b : List ℕ) → r ≡ Frame h n → told r ≡ reading ours b → WellRead ours b h n
-read_frame {h = h} {n} ours b e t = well_read ours b h n (ap told (sym e) ∙ t)
+pub read_frame : {r : Reading} {f : Frame} (ours : ℕ) (b : List ℕ) → r ≡ Ok f → told r ≡ reading ours b → WellRead ours b f
+read_frame {f = f} ours b e t = well_read ours b f (ap told (sym e) ∙ t)
 
-pub read_refused : {r : Reading} {q : Refusal} (ours : ℕ) (b : List ℕ) → r ≡ Refused q → told r ≡ reading ours b → payload_of ours b ≡ []
+pub read_refused : {r : Reading} {q : Refusal} (ours : ℕ) (b : List ℕ) → r ≡ Err q → told r ≡ reading ours b → payload_of ours b ≡ []
 read_refused {q = q} ours b e t = no_payload ours b q (ap told (sym e) ∙ t)

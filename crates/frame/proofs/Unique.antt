@@ -9,10 +9,8 @@ use Rattle.ground.specs.Bytes.{laid}
 use Rattle.refusal.specs.Refusal.{Told}
 use Rattle.frame.specs.declared.Header.{Header}
 use Rattle.frame.specs.declared.Ready.{Ready}
-use Rattle.frame.specs.declared.Reading.{Reading}
-use Rattle.frame.specs.declared.Writing.{Writing}
 use Rattle.frame.specs.declared.WriteNumbers.{WriteNumbers}
-use Rattle.frame.specs.Frame.{told_written, written_bytes}
+use Rattle.frame.specs.Frame.{Reading, Writing, told_written, written_bytes}
 use Rattle.frame.specs.ReadyHeader.{ready_bytes}
 use Rattle.frame.proofs.Told.{same_told, same_written}
 use Rattle.frame.proofs.ReadyHeader.{same_as_write}

@@ -1,15 +1,12 @@
 -- The frame (001, sections 5 and 7; 01, "The frame").
-use Rattle.std.specs.Prelude.{ℕ, ◌+◌, ◌≡◌, Bool, ◌||◌, not, List, [], ◌∷◌, ◌++◌, length, get_or, take, drop, eqb, ltb}
-use Rattle.refusal.specs.Refusal.{Told, value, refuses, gives, ruled}
+use Rattle.std.specs.Prelude.{ℕ, ◌+◌, ◌≡◌, Bool, ◌||◌, not, List, [], ◌∷◌, ◌++◌, length, get_or, take, drop, eqb, ltb, Result}
+use Rattle.refusal.specs.Refusal.{Told, value, refuses, gives, says, counts, ruled}
 use Rattle.refusal.specs.declared.Refusal.{Refusal}
 use Rattle.refusal.specs.declared.Refusal.TheVariants.{Short, OverLong, LengthMismatch, BadChecksum, PayloadTooLong, NoRoom, OtherSubnet}
 use Rattle.fletcher.specs.Fletcher.{is_good, check_bytes, never_zero}
 use Rattle.frame.specs.declared.Header.{Header}
-use Rattle.frame.specs.declared.Reading.{Reading}
-use Rattle.frame.specs.declared.Reading.TheVariants.{Frame, Refused}
-use Rattle.frame.specs.declared.Writing.{Writing}
+use Rattle.frame.specs.declared.Frame.{Frame}
 use Rattle.frame.specs.declared.WriteNumbers.{WriteNumbers}
-use Rattle.frame.specs.declared.Writing.TheVariants.{Written, Refused as NotWritten}
 
 -- the byte at an offset
 abbrev pub byte : List ℕ → ℕ → ℕ
@@ -71,10 +68,17 @@ ReadsWell ours b = reading ours b ≡ gives (fields (header_of b) ++ length_byte
 unfoldable pub payload_of : ℕ → List ℕ → List ℕ
 payload_of ours b = ruled (read_rules ours b) (λ r. []) (take (length_byte b) (drop 10 b))
 
+-- the numbers of a frame that was read: the nine fields and the payload's length
+abbrev pub frame_values : Frame → List ℕ
+frame_values f = fields f.header ++ f.length ∷ []
+
+-- a reading: a frame, or why there is none
+abbrev pub Reading : Type 0
+Reading = Result Frame Refusal
+
 -- what a reading says
 abbrev pub told : Reading → Told
-told (Frame h n) = gives (fields h ++ n ∷ [])
-told (Refused r) = refuses r
+told = says frame_values
 
 -- a frame before its check bytes: the fields, the payload's length, the payload (01, "The frame")
 abbrev pub body : Header → List ℕ → List ℕ
@@ -105,10 +109,13 @@ writing p room = ruled (write_rules p room) refuses (gives ((12 + length p) ∷ 
 unfoldable pub written_bytes : Header → List ℕ → ℕ → List ℕ
 written_bytes h p room = ruled (write_rules p room) (λ r. []) (frame_of h p)
 
+-- a writing: the count of bytes written, or why none was
+abbrev pub Writing : Type 0
+Writing = Result ℕ Refusal
+
 -- what a writing says
 abbrev pub told_written : Writing → Told
-told_written (Written n) = gives (n ∷ [])
-told_written (NotWritten r) = refuses r
+told_written = counts
 
 -- what C is given of it: the refusal's number or 0, and the count (house)
 abbrev pub write_numbers : Told → WriteNumbers

@@ -11,7 +11,7 @@ use refusal::Refusal;
 
 // The nine bytes before the payload length, in the order of the wire.
 #[repr(C)]
-#[derive(Clone, Copy)]
+#[derive(Clone, Copy, Default)]
 pub struct Header {
     pub destination: u8,
     pub source: u8,
@@ -33,18 +33,11 @@ pub struct Ready {
     pub second: u8,
 }
 
-// What reading finds: the header and the payload's length, or why there is no frame.
+// A frame that was read: its header, and how long its payload is.
 #[derive(Clone, Copy)]
-pub enum Reading {
-    Frame(Header, usize),
-    Refused(Refusal),
-}
-
-// What writing did: the count of bytes written, or why none was.
-#[derive(Clone, Copy)]
-pub enum Writing {
-    Written(usize),
-    Refused(Refusal),
+pub struct Frame {
+    pub header: Header,
+    pub length: usize,
 }
 
 // A writing, for C: the refusal's number or 0, and the count of bytes written.
@@ -80,27 +73,27 @@ pub fn takes_subnet(ours: u8, subnet: u8) -> bool
 }
 
 // Reads bytes as one whole frame that a system with our subnet takes.
-pub fn read(ours: u8, bytes: &[u8]) -> Reading
+pub fn read(ours: u8, bytes: &[u8]) -> Result<Frame, Refusal>
     ensures { told result ≡ reading ours bytes.now }
 {
     if bytes.len() < 12 {
-        return Reading::Refused(Refusal::Short);
+        return Err(Refusal::Short);
     }
     let n = bytes[9] as usize;
     if 240 < n {
-        return Reading::Refused(Refusal::OverLong);
+        return Err(Refusal::OverLong);
     }
     if bytes.len() != 12 + n {
-        return Reading::Refused(Refusal::LengthMismatch);
+        return Err(Refusal::LengthMismatch);
     }
     if !fletcher::good(bytes) {
-        return Reading::Refused(Refusal::BadChecksum);
+        return Err(Refusal::BadChecksum);
     }
     let header = header_of(bytes);
     if !takes_subnet(ours, header.subnet) {
-        return Reading::Refused(Refusal::OtherSubnet);
+        return Err(Refusal::OtherSubnet);
     }
-    Reading::Frame(header, n)
+    Ok(Frame { header, length: n })
 }
 
 // The payload of a frame, as a part of its bytes; empty where they are no frame that a system with our subnet takes.
@@ -108,11 +101,11 @@ pub fn payload(ours: u8, bytes: &[u8]) -> &[u8]
     ensures { result.now ≡ payload_of ours bytes.now }
 {
     match read(ours, bytes) {
-        Reading::Frame(_, n) => {
-            let end = 10 + n;
+        Ok(frame) => {
+            let end = 10 + frame.length;
             &bytes[10..end]
         }
-        Reading::Refused(_) => &bytes[..0],
+        Err(_) => &bytes[..0],
     }
 }
 
@@ -143,16 +136,16 @@ fn written(
     m: usize,
     rest: &[u8],
     out: &mut [u8],
-) -> Writing
+) -> Result<usize, Refusal>
     requires { (from ≤ 10) × ((m ≤ 240) × (m ≤ length out.old - 10)) }
     ensures { (told_written result ≡ writing (begun m out.old ++ rest.now) (length out.old)) × (out.new ≡ laid (closed_bytes header before from (begun m out.old ++ rest.now) (length out.old)) out.old) }
 {
     if 240 - m < rest.len() {
-        return Writing::Refused(Refusal::PayloadTooLong);
+        return Err(Refusal::PayloadTooLong);
     }
     let n = m + rest.len();
     if out.len() < 12 + n {
-        return Writing::Refused(Refusal::NoRoom);
+        return Err(Refusal::NoRoom);
     }
     let front = head(header, n as u8);
     ground::lay(out, 0, &front);
@@ -160,44 +153,46 @@ fn written(
     let end = 10 + n;
     let check = fletcher::check_after(before, &out[from..end]);
     ground::lay(out, end, &check);
-    Writing::Written(12 + n)
+    Ok(12 + n)
 }
 
 // Writes a frame with this header and payload at the front of out.
-pub fn write(header: Header, payload: &[u8], out: &mut [u8]) -> Writing
+pub fn write(header: Header, payload: &[u8], out: &mut [u8]) -> Result<usize, Refusal>
     ensures { (told_written result ≡ writing payload.now (length out.old)) × (out.new ≡ laid (written_bytes header payload.now (length out.old)) out.old) }
 {
     written(header, fletcher::seed(), 0, 0, payload, out)
 }
 
 // Writes a frame whose payload is these two parts, one after the other, at the front of out: what stands apart need not be brought together first.
-pub fn write_parts(header: Header, front: &[u8], rest: &[u8], out: &mut [u8]) -> Writing
+pub fn write_parts(
+    header: Header,
+    front: &[u8],
+    rest: &[u8],
+    out: &mut [u8],
+) -> Result<usize, Refusal>
     ensures { (told_written result ≡ writing (front.now ++ rest.now) (length out.old)) × (out.new ≡ laid (written_bytes header (front.now ++ rest.now) (length out.old)) out.old) }
 {
     let m = front.len();
-    if 240 < m {
-        return Writing::Refused(Refusal::PayloadTooLong);
-    }
-    if 240 - m < rest.len() {
-        return Writing::Refused(Refusal::PayloadTooLong);
+    if 240 < m || 240 - m < rest.len() {
+        return Err(Refusal::PayloadTooLong);
     }
     if out.len() < 12 + m + rest.len() {
-        return Writing::Refused(Refusal::NoRoom);
+        return Err(Refusal::NoRoom);
     }
     ground::lay(out, 10, front);
     written(header, fletcher::seed(), 0, m, rest, out)
 }
 
 // The numbers by which C is told a writing, whichever writer's.
-pub fn numbers_of(answer: Writing) -> WriteNumbers
+pub fn numbers_of(answer: Result<usize, Refusal>) -> WriteNumbers
     ensures { result ≡ write_numbers (told_written answer) }
 {
     match answer {
-        Writing::Written(n) => WriteNumbers {
+        Ok(written) => WriteNumbers {
             refusal: 0,
-            written: n,
+            written,
         },
-        Writing::Refused(refusal) => WriteNumbers {
+        Err(refusal) => WriteNumbers {
             refusal: refusal::number(refusal),
             written: 0,
         },
@@ -211,14 +206,14 @@ pub fn prepare(header: Header) -> Ready
     let front = head(header, 0);
     let s = fletcher::sums_over(&front[..9]);
     Ready {
-        header: header,
+        header,
         first: s.first as u8,
         second: s.second as u8,
     }
 }
 
 // Writes a frame with a ready header and this payload at the front of out: only the length byte and the payload are summed.
-pub fn write_ready(ready: Ready, payload: &[u8], out: &mut [u8]) -> Writing
+pub fn write_ready(ready: Ready, payload: &[u8], out: &mut [u8]) -> Result<usize, Refusal>
     ensures { (told_written result ≡ writing payload.now (length out.old)) × (out.new ≡ laid (ready_bytes ready payload.now (length out.old)) out.old) }
 {
     let header = ready.header;

@@ -2,59 +2,50 @@
 // payload length. Frames whose subnet is neither SUBNET nor 0 are passed over.
 #![tactic(auto)]
 
+ghost use Rattle.std.specs.Prelude.{◌≤◌, ◌<◌, length, IfSome};
+
 use finder::Finding;
-use frame::{Header, Reading};
+use frame::{Frame, Header};
 use std::io;
 use std::io::{BufWriter, Write};
 
 // The subnet of the system whose frames are listed.
 const SUBNET: u8 = 3;
 
-fn print_number<W: Write>(to: &mut W, n: u64) -> io::Result<()> {
-    console::write_decimal(to, n)
+// The line of the frame that stands at `start` of the input.
+fn print_frame<W: Write>(to: &mut W, start: usize, frame: Frame) -> io::Result<()> {
+    let Frame { header, length } = frame;
+    let Header {
+        destination,
+        source,
+        message,
+        ..
+    } = header;
+    writeln!(to, "{start} {destination} {source} {message} {length}")
 }
 
-fn print_field<W: Write>(to: &mut W, b: u8) -> io::Result<()> {
-    to.write_all(b" ")?;
-    print_number(to, b as u64)
-}
-
-fn print_line<W: Write>(to: &mut W, start: usize, header: Header, n: usize) -> io::Result<()> {
-    print_number(to, start as u64)?;
-    print_field(to, header.destination)?;
-    print_field(to, header.source)?;
-    print_field(to, header.message)?;
-    to.write_all(b" ")?;
-    print_number(to, n as u64)?;
-    to.write_all(b"\n")
-}
-
-// Prints the frame that these bytes are, which stand at `start` of the input.
-fn print_frame<W: Write>(to: &mut W, start: usize, bytes: &[u8]) -> io::Result<()> {
-    if let Reading::Frame(header, n) = frame::read(SUBNET, bytes) {
-        print_line(to, start, header, n)?;
+// Where the next frame begins and ends, from here on.
+fn next_frame(bytes: &[u8], at: usize) -> Option<(usize, usize)>
+    requires { at ≤ length bytes.now }
+    ensures { IfSome result (λ place. (at ≤ place.0) × (place.0 < place.1) × (place.1 ≤ length bytes.now)) }
+{
+    match finder::find(SUBNET, &bytes[at..], bytes.len()) {
+        Finding::Found { start, length, .. } => {
+            let from = at + start;
+            Some((from, from + length))
+        }
+        Finding::Nothing(_) | Finding::Spent(_) => None,
     }
-    Ok(())
 }
 
 // Goes on after each frame found, until no start holds one.
 fn list_frames<W: Write>(to: &mut W, bytes: &[u8]) -> io::Result<()> {
-    let mut at: usize = 0;
-    while at < bytes.len() {
-        match finder::find(SUBNET, &bytes[at..], bytes.len()) {
-            Finding::Found {
-                start,
-                length,
-                tried: _,
-            } => {
-                let from = at + start;
-                let end = from + length;
-                print_frame(to, from, &bytes[from..end])?;
-                at = end;
-            }
-            Finding::Nothing(_) => return Ok(()),
-            Finding::Spent(_) => return Ok(()),
+    let mut at = 0;
+    while let Some((start, end)) = next_frame(bytes, at) {
+        if let Ok(found) = frame::read(SUBNET, &bytes[start..end]) {
+            print_frame(to, start, found)?;
         }
+        at = end;
     }
     Ok(())
 }

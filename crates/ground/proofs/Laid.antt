@@ -1,27 +1,33 @@
--- A loop that copies a list over a part of another; what stands in, before and behind what was pasted; bytes laid at a front.
+-- Bytes copied over a part of a list; what stands in, before and behind what was pasted; bytes laid at a front.
 use Prim.Native.Nat.{ℕ, ◌+◌, ◌-◌, ◌≤◌, ◌<◌, min}
 use native.Mathlib.Omega.{arith}
-use native.Mathlib.Numerals.{add-one}
 use native.Mathlib.Nat.{add_assoc, zero-add}
 use mathlib.Core.Path.{◌≡◌, refl, sym, ap, ◌∙◌}
 use mathlib.Core.Logic.{◌⊎◌, inl, inr}
 use mathlib.Core.Bool.{Bool, true, false}
 use mathlib.Core.List.{List, ◌++◌, append_assoc}
-use lib.ListN.{length, get_or, set, take, drop, length-append, length-drop, get_or-append}
-use lib.Seq.{paste, paste-zero, paste-suc, length-paste, length_paste_head, take-paste, drop-paste, take-length, take_all, take_at, drop_at, drop-drop, length-take-le, get_or-take, get_or-drop, get_or-append-add}
+use Rattle.std.proofs.lemmas.List.{take_min, drop_min, length-take, length-replicate}
+use borrow.Rule.Slice.PartMut.{put_mid}
+use lib.ListN.{length, get_or, take, drop, replicate, length-append, length-drop, get_or-append}
+use lib.Seq.{paste, length-paste, length_paste_head, take-paste, drop-paste, take-length, take_all, take_at, drop_at, drop-drop, length-take-le, get_or-take, get_or-drop, get_or-append-add}
 use lib.Dec.{ltb}
 use borrow.Author.Tests.{ltb-true, ltb-false}
-use Rattle.ground.specs.Bytes.{laid, fitting}
+use Rattle.ground.specs.Bytes.{laid, fitting, padded}
 use Rattle.ground.proofs.Runs.{run_alike}
 
-pub paste_none : (d : List ℕ) (at : ℕ) (s : List ℕ) → d ≡ paste d at s 0
-paste_none d at s = paste-zero d at s
+-- as many bytes as fit from a place on, written from that place or the end, are pasted at the place
+pub paste_cut : (d s u : List ℕ) (at start n k : ℕ) → start ≡ min at (length d) → n ≡ min (length s) (length d - start) → k ≡ n → u ≡ take n s → put_mid start k d u ≡ paste d at s (fitting (length s) at (length d))
+unfolding fitting
+paste_cut d s u at start n k hs hn hk hu = rw (hu, front, behind, append_assoc, same) refl
+  where
+    same : n ≡ min (length s) (length d - at)
+    same = omega arith
 
-pub paste_step : (d u : List ℕ) (at : ℕ) (s : List ℕ) (i : ℕ) → u ≡ paste d at s i → at + i < length d → i < length s → set u (at + i) (get_or s i 0) ≡ paste d at s (i + 1)
-paste_step d u at s i e h l = rw (e, add-one) (paste-suc d at s i 0 h l)
+    front : take start d ≡ take at d
+    front = rw hs (take_min at d)
 
-pub paste_end : (d u : List ℕ) (at : ℕ) (s : List ℕ) (i n : ℕ) → u ≡ paste d at s i → i ≡ n → u ≡ paste d at s n
-paste_end d u at s i n e q = rw e (rw q refl)
+    behind : drop k (drop start d) ≡ drop (at + n) d
+    behind = rw drop-drop (rw (let e : start + k ≡ min (at + n) (length d) = omega arith in e) (drop_min (at + n) d))
 
 -- what was pasted stands from its place on
 pub paste_in : (d s : List ℕ) (at n i : ℕ) → at ≤ length d → n ≤ length s → i < n → get_or (paste d at s n) (at + i) 0 ≡ get_or s i 0
@@ -61,6 +67,25 @@ laid_pasted a o = rw (take-length a, zero-add (length a)) refl
 -- what is laid over is as long as before
 pub laid_length : (a o : List ℕ) → length a ≤ length o → length (laid a o) ≡ length o
 laid_length a o h = length-append a (drop (length a) o) ∙ rw (length-drop (length a) o) (omega arith)
+
+-- bytes pasted at a front, as many as there is room for, are laid there
+pasted_laid : (d s : List ℕ) → paste d 0 s (fitting (length s) 0 (length d)) ≡ laid (take (length d) s) d
+unfolding fitting
+pasted_laid d s = rw (front, behind) refl
+  where
+    front : take (min (length s) (length d - 0)) s ≡ take (length d) s
+    front = rw (let e : min (length s) (length d - 0) ≡ min (length d) (length s) = omega arith in e) (take_min (length d) s)
+
+    behind : 0 + min (length s) (length d - 0) ≡ length (take (length d) s)
+    behind = rw length-take (omega arith)
+
+-- and over zeros, they are padded
+pub padded_pasted : (u s : List ℕ) (n : ℕ) → u ≡ paste (replicate n 0) 0 s (fitting (length s) 0 (length (replicate {A = ℕ} n 0))) → u ≡ padded n s
+padded_pasted u s n h = h ∙ pasted_laid (replicate n 0) s ∙ ap (λ (k : ℕ). laid (take k s) (replicate n 0)) (length-replicate n 0)
+
+-- bytes that all have a place are laid over zeros
+pub padded_whole : (s : List ℕ) (n : ℕ) → length s ≤ n → padded n s ≡ laid s (replicate n 0)
+padded_whole s n h = ap (λ (b : List ℕ). laid b (replicate n 0)) (take_all n s h)
 
 -- where all of the bytes fit, all are laid
 pub all_fit : (bytes at room : ℕ) → at + bytes ≤ room → fitting bytes at room ≡ bytes

@@ -1,9 +1,13 @@
 -- Bytes laid at the front of a buffer, and over a part of it; a part that numbers name.
-use Rattle.std.specs.Prelude.{ℕ, ◌+◌, ◌-◌, ◌≤◌, min, ◌≡◌, List, ◌++◌, length, take, drop}
+use Rattle.std.specs.Prelude.{ℕ, ◌+◌, ◌-◌, ◌≤◌, min, ◌≡◌, List, ◌++◌, length, take, drop, replicate}
 
 -- the bytes, and past them what the buffer held
 abbrev pub laid : List ℕ → List ℕ → List ℕ
 laid bytes out = bytes ++ drop (length bytes) out
+
+-- the bytes, and zeros in the places that they leave of so many; as many bytes as there is room for
+abbrev pub padded : ℕ → List ℕ → List ℕ
+padded places bytes = laid (take places bytes) (replicate places 0)
 
 -- how many of so many bytes fit into a buffer from a place on
 unfoldable pub fitting : ℕ → ℕ → ℕ → ℕ

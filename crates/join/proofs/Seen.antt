@@ -13,7 +13,7 @@ use Rattle.board.specs.Table.{put}
 use Rattle.board.specs.Columns.{kind_of, kinds_of, stored_version, versions_of, macs_of, lowest_in, column_with, forty}
 use Rattle.board.specs.Types.{many_in}
 use Rattle.board.proofs.SameKinds.{kinds_free}
-use Rattle.board.proofs.Columns.{lowest_of_mac, column_put, forty_whole}
+use Rattle.board.proofs.Column.{lowest_of_mac, column_put, forty_whole}
 use Rattle.board.proofs.Changes.{put_length}
 use Rattle.coordinator.specs.declared.Coordinator.{Coordinator}
 use Rattle.coordinator.proofs.Fitting.{fits_forty}

@@ -14,5 +14,5 @@ use Rattle.join.proofs.join.Reads as join
 pub unique_is_busy : (a s t : _) (r q : Bool) → is-busy.Post tt a r s → is-busy.Post tt a q t → r ≡ q
 unique_is_busy a s t r q p p' = p ∙ sym p'
 
-pub unique_join : (κs a s t : _) (r q : Change) → join.Post κs a r s → join.Post κs a q t → (p : List ℕ) (c : Coordinator) (u : List Node) → Saw a.0 c u → OfBoards a.1.0.now a.1.1.0.now a.1.1.1.0.now c u → applied r p c u ≡ applied q p c u
+pub unique_join : (κs a s t : _) (r q : Change) → join.Post κs a r s → join.Post κs a q t → (p : List ℕ) (c : Coordinator) (u : List Node) → Saw a.0 c u → OfBoards a.1.0.now c u → applied r p c u ≡ applied q p c u
 unique_join κs a s t r q h h' = λ p c u saw known. h p c u saw known ∙ sym (h' p c u saw known)

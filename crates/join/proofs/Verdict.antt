@@ -13,9 +13,6 @@ use Rattle.board.specs.declared.Node.{Node}
 use Rattle.board.specs.Node.{is_mac}
 use Rattle.board.specs.Table.{put}
 use Rattle.board.specs.Change.{joined_node, relisted}
-use Rattle.setup.specs.declared.Judged.{Judged}
-use Rattle.setup.specs.declared.Judged.TheVariants.{Refused, Fine}
-use Rattle.setup.specs.Setup.{told_of}
 use Rattle.coordinator.specs.declared.Coordinator.{Coordinator}
 use Rattle.coordinator.specs.Fit.{fits}
 use Rattle.coordinator.specs.Change.{holding}
@@ -36,13 +33,13 @@ module _ (c : Coordinator) (t : List Node) (kind mac session version : ℕ) wher
 
   -- of fit records: a verdict of the rules past the first that gives nothing passed each of them
   module _ (fit : fits c t ≡ true) where
-    pub join_taken : {r : Judged} → r ≡ Fine → told_of r ≡ ruled (drop 1 (join_rules c t kind mac version)) refuses (gives []) → Passed (join_rules c t kind mac version)
-    join_taken e v = (not_no (fits c t) fit, (gave (drop 1 (join_rules c t kind mac version)) [] [] (sym v ∙ ap told_of e)).0)
+    pub join_taken : ruled (drop 1 (join_rules c t kind mac version)) refuses (gives []) ≡ gives [] → Passed (join_rules c t kind mac version)
+    join_taken e = (not_no (fits c t) fit, (gave (drop 1 (join_rules c t kind mac version)) [] [] e).0)
 
     -- and one that refuses refuses the join
-    pub join_refused : {r : Judged} (q : Refusal) → r ≡ Refused q → told_of r ≡ ruled (drop 1 (join_rules c t kind mac version)) refuses (gives []) → join_of c t kind mac session version ≡ refused c t q
+    pub join_refused : (q : Refusal) → ruled (drop 1 (join_rules c t kind mac version)) refuses (gives []) ≡ refuses q → join_of c t kind mac session version ≡ refused c t q
     unfolding join_of
-    join_refused q e v = sym (choose_no _ _ _ _ (not_no (fits c t) fit) refl) ∙ rule-refused (drop 1 (join_rules c t kind mac version)) [] (refused c t) (joined_as c t kind mac session version) q (sym v ∙ ap told_of e)
+    join_refused q e = sym (choose_no _ _ _ _ (not_no (fits c t) fit) refl) ∙ rule-refused (drop 1 (join_rules c t kind mac version)) [] (refused c t) (joined_as c t kind mac session version) q e
 
   -- the change that a join makes where no rule refuses it
   pub join_made : Passed (join_rules c t kind mac version) → (p : List ℕ) {n : ℕ} → (is_mac mac ≡ true → n ≡ chosen t c.setup.k mac) → {x : Change} → x ≡ changing Held n (Joined kind mac session version) true Rest 0 n 0 → applied x p c t ≡ shows (join_of c t kind mac session version)

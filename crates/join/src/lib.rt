@@ -2,43 +2,22 @@
 #![tactic(auto)]
 
 ghost use Rattle.std.specs.Prelude.{◌≡◌};
-ghost use Rattle.board.specs.Node.{is_kind};
 ghost use Rattle.look.specs.Seen.{OfBoards};
 ghost use Rattle.steps.specs.Join.{is_resting, join_of};
 ghost use Rattle.change.specs.Decides.{Makes};
 ghost use Rattle.join.specs.Parts.{busy_in, chosen_in, Judges};
 
-use board::Wanted;
+use board::{Columns, Wanted};
 use change::{Change, Edit, Move};
 use coordinator::{Phase, State};
 use look::Seen;
 use refusal::Refusal;
-use setup::Judged;
-
-// A board's type is neither 0 nor the coordinator's.
-fn is_kind(kind: u8) -> bool
-    ensures { result ≡ is_kind kind }
-{
-    (kind != 0) & (kind != 165)
-}
 
 // No wait, no forward or return due, no exchange by which a board joins.
 fn is_resting(phase: Phase) -> bool
     ensures { result ≡ is_resting phase }
 {
-    match phase {
-        Phase::Resting => true,
-        Phase::Awaiting {
-            board,
-            exchange,
-            requester,
-            acked,
-        } => false,
-        Phase::ForwardDue { board, requester } => false,
-        Phase::ReturnDue { board } => false,
-        Phase::Seeking { position, part } => false,
-        Phase::Unknown => false,
-    }
+    matches!(phase, Phase::Resting)
 }
 
 // The panel waits, a forward, a return or a list is due, or an exchange by which a board joins runs. `owed` is the lowest
@@ -46,12 +25,12 @@ fn is_resting(phase: Phase) -> bool
 pub fn is_busy(state: State, owed: usize) -> bool
     ensures { result ≡ busy_in state owed }
 {
-    let stand = state.stand;
-    let phase = coordinator::phase_of(stand);
-    !is_resting(phase) | (0 < owed)
+    !is_resting(coordinator::phase_of(state.stand)) || 0 < owed
 }
 
 // The position for a MAC: its own, or the lowest free one where that is 0; 0 where there is none.
+// No Option: `lowest_mac` and `lowest` of board give 0 for none, and the position of a change is 0 for nobody.
+#[tactic(auto, unfolding(ground::specs::Choose::choose))]
 fn chosen(kinds: &[u8; 40], own: usize, k: usize) -> usize
     ensures { result ≡ chosen_in kinds.now own k }
 {
@@ -64,54 +43,52 @@ fn chosen(kinds: &[u8; 40], own: usize, k: usize) -> usize
 
 // What a join of fit records is refused for, in the order of the rules: 12 to 15, 25 where there would be too many types,
 // 16 by the position for the MAC.
-fn judge(seen: Seen, kind: u8, mac: u64, version: u8, many: bool, position: usize) -> Judged
+#[tactic(auto, unfolding(ground::specs::Choose::choose))]
+fn judge(
+    seen: Seen,
+    kind: u8,
+    mac: u64,
+    version: u8,
+    many: bool,
+    position: usize,
+) -> Result<(), Refusal>
     ensures { Judges seen kind mac version many position result }
 {
     let state = seen.state;
-    if !is_kind(kind) {
-        return Judged::Refused(Refusal::BadType);
+    if !board::is_kind(kind) {
+        return Err(Refusal::BadType);
     }
     if !setup::is_mac(mac) {
-        return Judged::Refused(Refusal::BadMac);
+        return Err(Refusal::BadMac);
     }
     if is_busy(state, seen.owed) {
-        return Judged::Refused(Refusal::Busy);
+        return Err(Refusal::Busy);
     }
     if state.held == 1 {
-        return Judged::Refused(Refusal::Held);
+        return Err(Refusal::Held);
     }
     if many {
-        return Judged::Refused(Refusal::TooManyTypes);
+        return Err(Refusal::TooManyTypes);
     }
     if position == 0 {
-        return Judged::Refused(Refusal::Full);
+        return Err(Refusal::Full);
     }
-    Judged::Fine
+    Ok(())
 }
 
 // A board joins, or joins again, perhaps as another type or version: its record begins anew. Every index is then counted anew, the list owed to every listed board, and further joins are held.
-pub fn join(
-    seen: Seen,
-    kinds: &[u8; 40],
-    versions: &[u8; 40],
-    macs: &[u64; 40],
-    kind: u8,
-    mac: u64,
-    session: u64,
-    version: u8,
-) -> Change
-    ensures { Makes seen (OfBoards kinds.now versions.now macs.now) (λ c t. join_of c t kind mac session version) result }
+// Type, MAC, session and version stand apart, as `join_of`, the event and the face for C have them.
+pub fn join(seen: Seen, columns: &Columns, kind: u8, mac: u64, session: u64, version: u8) -> Change
+    ensures { Makes seen (OfBoards columns.now) (λ c t. join_of c t kind mac session version) result }
 {
-    let setup = seen.setup;
-    let own = board::lowest_mac(macs, mac, setup.k);
+    let k = seen.setup.k;
+    let own = board::lowest_mac(&columns.macs, mac, k);
     let joining = board::version_of(version);
-    let many = board::too_many_with(kinds, versions, own, kind, joining);
-    let position = chosen(kinds, own, setup.k);
-    match judge(seen, kind, mac, version, many, position) {
-        Judged::Refused(refusal) => change::refusing(refusal),
-        Judged::Fine => {
-            let edit = Edit::Joined(kind, mac, session, version);
-            change::resting(Move::Held, position, edit, true, position, 0)
-        }
+    let many = board::too_many_with(columns, own, kind, joining);
+    let position = chosen(&columns.kinds, own, k);
+    if let Err(refusal) = judge(seen, kind, mac, version, many, position) {
+        return change::refusing(refusal);
     }
+    let edit = Edit::Joined(kind, mac, session, version);
+    change::resting(Move::Held, position, edit, true, position, 0)
 }

@@ -7,6 +7,7 @@ use mathlib.Core.List.{List}
 use lib.ListN.{length, drop, length-take}
 use lib.Dec.{leb, ltb}
 use borrow.Author.Tests.{ltb-true, leb-true, lt-ltb, le-leb}
+use Rattle.std.specs.Prelude.{Ok}
 use Rattle.ground.specs.Choose.{choose}
 use Rattle.ground.proofs.Choices.{and_left, and_right, both, not_no}
 use Rattle.refusal.specs.Refusal.{Told}
@@ -88,7 +89,7 @@ module _ (c : Coordinator) (t : List Node) (h : fits c t ≡ true) (f : Header) 
       (acking_ends b l delivers refl)
       (λ r low high. route (routed_fits c t h b l f p (kept_request f p r low high few) f.method f.parameter1))
     where
-      route : (fits (routed c f p b (route_of t c.setup.k b f.method f.parameter1)) (hear t b) ≡ true) × ((routed c f p b (route_of t c.setup.k b f.method f.parameter1)).setup ≡ c.setup) → Keeps c t (taken_as Route Offer b q c t f p room)
+      route : (fits (routed c f p b (route_of t c.setup.k b f.method f.parameter1)) (hear t b) ≡ true) × ((routed c f p b (route_of t c.setup.k b f.method f.parameter1)).setup ≡ c.setup) → Keeps c t (taken_as (Ok Route) Offer b q c t f p room)
       route (fit, same) = acking_keeps c t h b l room transmits (routed c f p b (route_of t c.setup.k b f.method f.parameter1)) same fit refl
 
   taken_list : (b q : ℕ) (a : Bool) → listed_at t b ≡ true → Keeps c t (taken_as (heard_in Listing b a c t f p) Listing b q c t f p room)

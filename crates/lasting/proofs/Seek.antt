@@ -5,6 +5,7 @@ use mathlib.Core.Bool.{Bool, true, false, false≢true}
 use mathlib.Core.List.{List, []}
 use lib.Dec.{eqb, ltb}
 use borrow.Author.Tests.{ltb-true}
+use Rattle.std.specs.Prelude.{Result, Ok, Err}
 use Rattle.ground.specs.Choose.{choose}
 use Rattle.ground.proofs.Choices.{both}
 use Rattle.refusal.specs.declared.Refusal.TheVariants.{NotAwaited, NotWaiting, UnexpectedType, BadEcho, NoRoom}
@@ -12,8 +13,9 @@ use Rattle.frame.specs.declared.Header.{Header}
 use Rattle.board.specs.declared.Node.{Node}
 use Rattle.board.specs.Node.{is_kind, is_mac, is_version}
 use Rattle.board.proofs.Versions.{version_is, version_passes}
+use Rattle.refusal.specs.declared.Refusal.{Refusal}
 use Rattle.accept.specs.declared.Reply.{Reply}
-use Rattle.accept.specs.declared.Reply.TheVariants.{Present as AckCame, Refused}
+use Rattle.accept.specs.declared.Reply.TheVariants.{Present as AckCame}
 use Rattle.accept.specs.Replies.{mac_after, heard_in_identify}
 use Rattle.accept.proofs.Replied.{search_replied, identify_replied, assign_replied}
 use Rattle.coordinator.specs.declared.Part.{Part}
@@ -85,15 +87,15 @@ module _ (c : Coordinator) (t : List Node) (h : fits c t ≡ true) where
 
   -- what a frame does in each wait
   module _ (position : ℕ) (hd : Header) (p : List ℕ) (room : ℕ) where
-    abbrev Replied : Reply → Type 0
+    abbrev Replied : Result Reply Refusal → Type 0
     Replied r = Keeps c t (replied_as r position c t hd.packet p room)
 
     -- 7
-    unexpected : Replied (Refused UnexpectedType)
+    unexpected : Replied (Err UnexpectedType)
     unexpected = refused_keeps c t UnexpectedType refl
 
     -- an ACK from the address at stake
-    present_keeps : Stake position → Replied AckCame
+    present_keeps : Stake position → Replied (Ok AckCame)
     unfolding phase_fits
     present_keeps s = accepted_keeps c t _ (phase_keeps c t h (hear_mac t position (mac_after p)) (hear_mac_stays c t h position (mac_after p)) c.kept (seeking position Present) refl s) refl refl
 

@@ -8,6 +8,7 @@ use mathlib.Core.List.{List, [], ◌∷◌}
 use lib.Dec.{eqb, ltb}
 use lib.ListN.{length, get_or}
 use borrow.Author.Tests.{not-false}
+use Rattle.std.specs.Prelude.{Result, Ok, Err}
 use Rattle.ground.specs.Choose.{choose}
 use Rattle.ground.proofs.Firsts.{FirstCase}
 use Rattle.refusal.specs.Refusal.{Told}
@@ -23,10 +24,11 @@ use Rattle.board.specs.Wanted.{wanted_at, lowest_of}
 use Rattle.board.proofs.Positions.{listed_within}
 use Rattle.board.proofs.LowestWanted.{lowest_case}
 use Rattle.setup.specs.Setup.{subnet_of}
+use Rattle.refusal.specs.declared.Refusal.{Refusal}
 use Rattle.accept.specs.declared.Heard.{Heard}
-use Rattle.accept.specs.declared.Heard.TheVariants.{Ack, Echo, Deliver, Route, Answer, Refused}
+use Rattle.accept.specs.declared.Heard.TheVariants.{Ack, Echo, Deliver, Route, Answer}
 use Rattle.accept.specs.declared.Reply.{Reply}
-use Rattle.accept.specs.declared.Reply.TheVariants.{Discovered, Present as AckCame, Identified, Assigned, Refused as NotTaken}
+use Rattle.accept.specs.declared.Reply.TheVariants.{Discovered, Present as AckCame, Identified, Assigned}
 use Rattle.coordinator.specs.declared.Coordinator.{Coordinator}
 use Rattle.coordinator.specs.declared.Found.{Found}
 use Rattle.coordinator.specs.declared.Exchange.{Exchange}
@@ -110,12 +112,12 @@ module _ (c : Coordinator) (t : List Node) where
       ends : Few (outcome c t position f)
       ends = few_choice (eqb (join_found c t f).joined position) _ _ (few_join _ t f.kind f.mac f.session f.version) none
 
-  few_replied : (r : Reply) (position packet : ℕ) (p : List ℕ) (room : ℕ) → position ≤ 40 → Few (replied_as r position c t packet p room)
-  few_replied Discovered position packet p room h = few_choice (ltb 0 (join_found c t _).joined) _ _ none none
-  few_replied AckCame position packet p room h = (h, omega arith, omega arith)
-  few_replied Identified position packet p room h = few_settled position _ room
-  few_replied Assigned position packet p room h = few_settled position _ room
-  few_replied (NotTaken r) position packet p room h = none
+  few_replied : (r : Result Reply Refusal) (position packet : ℕ) (p : List ℕ) (room : ℕ) → position ≤ 40 → Few (replied_as r position c t packet p room)
+  few_replied (Ok Discovered) position packet p room h = few_choice (ltb 0 (join_found c t _).joined) _ _ none none
+  few_replied (Ok AckCame) position packet p room h = (h, omega arith, omega arith)
+  few_replied (Ok Identified) position packet p room h = few_settled position _ room
+  few_replied (Ok Assigned) position packet p room h = few_settled position _ room
+  few_replied (Err r) position packet p room h = none
 
   few_quiet_in_seek : (part : Part) (position : ℕ) → Few (quiet_in_seek part position c t)
   few_quiet_in_seek Search position = none
@@ -139,13 +141,13 @@ module _ (c : Coordinator) (t : List Node) where
     few_acked Forward b q u h = (h, omega arith, omega arith)
     few_acked Return b q u h = none
 
-    few_heard : (k : Heard) (e : Exchange) (b q : ℕ) (h : Header) (p : List ℕ) (room : ℕ) → b ≤ 40 → Few (taken_as k e b q c t h p room)
-    few_heard Ack e b q h p room l = few_acked e b q _ l
-    few_heard Echo e b q h p room l = few_choice (ltb room 29) _ _ none none
-    few_heard Deliver e b q h p room l = few_choice (ltb room 29) _ _ none none
-    few_heard Route e b q h p room l = few_choice (ltb room 29) _ _ none none
-    few_heard Answer e b q h p room l = few_choice (ltb room 29) _ _ none none
-    few_heard (Refused r) e b q h p room l = none
+    few_heard : (k : Result Heard Refusal) (e : Exchange) (b q : ℕ) (h : Header) (p : List ℕ) (room : ℕ) → b ≤ 40 → Few (taken_as k e b q c t h p room)
+    few_heard (Ok Ack) e b q h p room l = few_acked e b q _ l
+    few_heard (Ok Echo) e b q h p room l = few_choice (ltb room 29) _ _ none none
+    few_heard (Ok Deliver) e b q h p room l = few_choice (ltb room 29) _ _ none none
+    few_heard (Ok Route) e b q h p room l = few_choice (ltb room 29) _ _ none none
+    few_heard (Ok Answer) e b q h p room l = few_choice (ltb room 29) _ _ none none
+    few_heard (Err r) e b q h p room l = none
 
     few_taken : (w : Phase) (h : Header) (p : List ℕ) (room : ℕ) → phase_of c.stand ≡ w → Few (taken_in w c t h p room)
     few_taken Resting h p room e = none

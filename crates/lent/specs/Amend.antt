@@ -1,5 +1,5 @@
 -- Single records that a host amends by itself: listed, cleared, marked (01, "thin faces .. that list, clear and mark single records").
-use Rattle.std.specs.Prelude.{ℕ, ◌-◌, List, eqb}
+use Rattle.std.specs.Prelude.{ℕ, ◌-◌, min, List, length, eqb}
 use Rattle.ground.specs.Choose.{choose}
 use Rattle.refusal.specs.Refusal.{refuses}
 use Rattle.refusal.specs.declared.Refusal.TheVariants.{StateUnfit}
@@ -10,6 +10,7 @@ use Rattle.board.specs.Change.{joined_node, owe}
 use Rattle.board.specs.Index.{numbered}
 use Rattle.steps.specs.After.{rests}
 use Rattle.change.specs.declared.Edit.{Edit}
+use Rattle.place.specs.Place.{edited_between, numbered_first}
 use Rattle.lent.specs.declared.Amendment.{Amendment}
 use Rattle.lent.specs.Numbers.{packed}
 
@@ -43,3 +44,7 @@ amending n position e =
     choose (eqb n 40)
     (record { from = position - 1; to = position; edit = e; all = n; answer = packed rests 0 0 0 })
     (record { from = 0; to = 0; edit = e; all = 0; answer = packed (refuses StateUnfit) 0 0 0 })
+
+-- the records as an amendment leaves them: those from an index up to another edited, and of all of them the first so many counted anew (house)
+abbrev pub amended_by : Amendment → List Node → List Node
+amended_by a t = let edited = edited_between t a.from a.to a.edit in numbered_first edited (min (length edited) a.all)

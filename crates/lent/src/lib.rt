@@ -3,21 +3,18 @@
 #![tactic(auto)]
 
 ghost use Rattle.std.specs.Prelude.{◌≡◌, ◌-◌};
-ghost use Rattle.steps.specs.After.{told, exchange_number, seek_number};
+ghost use Rattle.steps.specs.After.{told};
 ghost use Rattle.change.specs.declared.Edit.TheVariants.{Owed, Cleared, Joined};
 ghost use Rattle.lent.specs.Numbers.{event_of, saying, packed};
 ghost use Rattle.lent.specs.Amend.{amending};
 
 use change::Edit;
-use coordinator::Exchange;
 use refusal::Refusal;
-use steps::{Answer, Event, Outcome, Seek};
-
-// As many records as a table has.
-const RECORDS: usize = 40;
+use stepping::RECORDS;
+use steps::{Answer, Event, Outcome};
 
 // Which records a host amends by itself, from an index up to another, what is done to each, how many there are to number
-// where that moves indexes, and the packed answer.
+// where that moves indexes, and the packed answer. Where nothing is amended both ranges are empty, as `amending` has it.
 #[derive(Clone, Copy)]
 pub struct Amendment {
     pub from: usize,
@@ -28,6 +25,7 @@ pub struct Amendment {
 }
 
 // The record at a position of `count` records edited: none of them where they are not forty, or where the position names nobody.
+#[tactic(auto, unfolding(ground::specs::Choose::choose))]
 fn amending(count: usize, position: usize, edit: Edit) -> Amendment
     ensures { result ≡ amending count position edit }
 {
@@ -35,7 +33,7 @@ fn amending(count: usize, position: usize, edit: Edit) -> Amendment
         return Amendment {
             from: 0,
             to: 0,
-            edit: edit,
+            edit,
             all: 0,
             answer: plainly(Answer::Refuse(Refusal::StateUnfit)),
         };
@@ -43,13 +41,13 @@ fn amending(count: usize, position: usize, edit: Edit) -> Amendment
     Amendment {
         from: place::below(position),
         to: position,
-        edit: edit,
+        edit,
         all: count,
         answer: plainly(Answer::Rest),
     }
 }
 
-// A board listed at a position of `count` records.
+// A board listed at a position of `count` records. This and the two below are `amending` by the names that the faces for C have for it.
 pub fn list_edit(
     count: usize,
     position: usize,
@@ -77,58 +75,28 @@ pub fn mark_edit(count: usize, position: usize) -> Amendment
     amending(count, position, Edit::Owed)
 }
 
-// The event that C names by its number.
+// The event that C names by its number; any other number is a join of type 0, which is always refused.
+#[tactic(auto, unfolding(ground::specs::Choose::choose))]
 pub fn event_of(number: u8, kind: u8, mac: u64, session: u64, version: u8) -> Event
     ensures { result ≡ event_of number kind mac session version }
 {
-    if number == 1 {
-        return Event::Join {
-            kind: kind,
-            mac: mac,
-            session: session,
-            version: version,
-        };
-    }
-    if number == 2 {
-        return Event::Turn;
-    }
-    if number == 3 {
-        return Event::Frame;
-    }
-    if number == 4 {
-        return Event::Quiet;
-    }
-    if number == 5 {
-        return Event::Discover;
-    }
-    Event::Join {
-        kind: 0,
-        mac: mac,
-        session: session,
-        version: version,
-    }
-}
-
-// The number of an exchange.
-fn exchange_number(exchange: Exchange) -> u8
-    ensures { result ≡ exchange_number exchange }
-{
-    match exchange {
-        Exchange::Offer => 1,
-        Exchange::List => 2,
-        Exchange::Forward => 3,
-        Exchange::Return => 4,
-    }
-}
-
-// The number of a wait in the exchange by which a board joins.
-fn seek_number(seek: Seek) -> u8
-    ensures { result ≡ seek_number seek }
-{
-    match seek {
-        Seek::Search => 5,
-        Seek::Identify => 6,
-        Seek::Assign => 7,
+    match number {
+        1 => Event::Join {
+            kind,
+            mac,
+            session,
+            version,
+        },
+        2 => Event::Turn,
+        3 => Event::Frame,
+        4 => Event::Quiet,
+        5 => Event::Discover,
+        _ => Event::Join {
+            kind: 0,
+            mac,
+            session,
+            version,
+        },
     }
 }
 
@@ -137,8 +105,8 @@ fn saying(answer: Answer) -> [u8; 4]
     ensures { result ≡ saying (told answer) }
 {
     match answer {
-        Answer::Wait(board, exchange) => [0, 1, (board % 256) as u8, exchange_number(exchange)],
-        Answer::Seek(position, seek) => [0, 1, (position % 256) as u8, seek_number(seek)],
+        Answer::Wait(board, exchange) => [0, 1, (board % 256) as u8, exchange as u8],
+        Answer::Seek(position, seek) => [0, 1, (position % 256) as u8, seek as u8],
         Answer::Deliver => [0, 2, 0, 0],
         Answer::Transmit => [0, 3, 0, 0],
         Answer::Rest => [0, 4, 0, 0],
@@ -150,26 +118,18 @@ fn saying(answer: Answer) -> [u8; 4]
 pub fn pack(outcome: Outcome) -> u64
     ensures { result ≡ packed (told outcome.answer) outcome.written outcome.joined outcome.dropped }
 {
-    let answer = outcome.answer;
-    let says = saying(answer);
-    let joined = (outcome.joined % 256) as u8;
-    let dropped = (outcome.dropped % 256) as u8;
-    let low = (outcome.written % 256) as u8;
-    let high = (outcome.written / 256 % 256) as u8;
-    let bytes = [
-        says[0], says[1], says[2], says[3], joined, dropped, low, high,
-    ];
-    word::word_at(&bytes, 0)
+    let [refusal, said, position, exchange] = saying(outcome.answer);
+    let [joined, ..] = outcome.joined.to_le_bytes();
+    let [dropped, ..] = outcome.dropped.to_le_bytes();
+    let [low, high, ..] = outcome.written.to_le_bytes();
+    u64::from_le_bytes([
+        refusal, said, position, exchange, joined, dropped, low, high,
+    ])
 }
 
 // An answer with which nothing is written, nobody joins and nobody is dropped.
 fn plainly(answer: Answer) -> u64
     ensures { result ≡ packed (told answer) 0 0 0 }
 {
-    pack(Outcome {
-        answer: answer,
-        written: 0,
-        joined: 0,
-        dropped: 0,
-    })
+    pack(answer.into())
 }

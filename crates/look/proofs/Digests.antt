@@ -9,6 +9,7 @@ use mathlib.Core.List.{List, [], ◌∷◌, ◌++◌, map}
 use lib.ListN.{length, get_or, set, take, drop, replicate, length-map}
 use lib.Dec.{eqb, ltb}
 use borrow.Author.Tests.{lt-ltb, eq-eqb, eqb-true}
+use Rattle.std.proofs.lemmas.List.{get_or-take, length-take}
 use Rattle.ground.specs.Choose.{choose}
 use Rattle.ground.specs.Below.{all, highest, up_from, first_or}
 use Rattle.ground.proofs.Choices.{of_choice, choose_yes, choose_no, not_right, and_left, and_right}
@@ -23,25 +24,27 @@ use Rattle.board.specs.Wanted.{wanted_at, lowest_of, highest_listed}
 use Rattle.board.specs.Columns.{kind_of, stored_index, stored_version, mac_of, kinds_of, stored_indexes, versions_of, macs_of}
 use Rattle.setup.specs.Fit.{record_fits, records_fit}
 use Rattle.setup.proofs.Tables.{blank_told}
+use Rattle.board.specs.declared.Columns.{Columns}
 use Rattle.look.specs.declared.Seen.{Seen}
 use Rattle.look.specs.declared.Digest.{Digest}
 use Rattle.look.specs.Seen.{Columned}
-use Rattle.look.specs.Digest.{Digested, digested, dg, zeroed, owed_first, digest_of, noted, digest_to, digest_all}
-
--- what was noted is one where its parts are
-pub same_digested : {d e : Digest} {ks ls xs ys vs us ms ns : List ℕ} → digested d ks xs vs ms ≡ digested e ls ys us ns → (d ≡ e) × ((ks ≡ ls) × ((xs ≡ ys) × ((vs ≡ us) × (ms ≡ ns))))
-same_digested h = (ap (λ (z : Digested). z.digest) h, (ap (λ (z : Digested). z.kinds) h, (ap (λ (z : Digested). z.indexes) h, (ap (λ (z : Digested). z.versions) h, ap (λ (z : Digested). z.macs) h))))
+use Rattle.look.specs.Digest.{zeroed, owed_first, digest_of, noted, digest_to, digest_all}
 
 -- below forty the record is noted
-pub noted_below : (k i : ℕ) (n : Node) (s : Digested) → i < 40 → noted k i n s ≡ digest_of k i n s
+pub noted_below : (k i : ℕ) (n : Node) (s : Digest) → i < 40 → noted k i n s ≡ digest_of k i n s
 noted_below k i n s h = sym (choose_yes (ltb i 40) _ _ _ (lt-ltb i 40 h) refl)
 
 -- one record more, and none yet
-pub digest_more : (k : ℕ) (t : List Node) (s : Digested) (i : ℕ) → digest_of k i (get_or t i none) (digest_to k t s i) ≡ digest_to k t s (i + 1)
+pub digest_more : (k : ℕ) (t : List Node) (s : Digest) (i : ℕ) → digest_of k i (get_or t i none) (digest_to k t s i) ≡ digest_to k t s (i + 1)
 unfolding digest_to
 digest_more k t s i = ap (digest_to k t s) (sym (add-one i))
 
-pub digest_none : (k : ℕ) (t : List Node) (s : Digested) → digest_to k t s 0 ≡ s
+pub digest_next : (k i m : ℕ) (t : List Node) (s d : Digest) → d ≡ digest_to k t s i → i < length (take m t) → m ≤ 40 → noted k i (get_or (take m t) i none) d ≡ digest_to k t s (i + 1)
+digest_next k i m t s d e h l =
+    let below : i < m = omega (arith, length-take m t) in
+    rw (e, get_or-take m t i none below) (noted_below k i (get_or t i none) (digest_to k t s i) (omega arith) ∙ digest_more k t s i)
+
+pub digest_none : (k : ℕ) (t : List Node) (s : Digest) → digest_to k t s 0 ≡ s
 unfolding digest_to
 digest_none k t s = refl
 
@@ -55,21 +58,21 @@ unfolding choose
 choose_not true x y = refl
 choose_not false x y = refl
 
-module _ (k : ℕ) (t : List Node) (kinds indexes versions macs : List ℕ) where
-  abbrev begun : Digested
-  begun = digested (dg true 0 0) kinds indexes versions macs
+module _ (k : ℕ) (t : List Node) (columns : Columns) where
+  abbrev begun : Digest
+  begun = record { ok = true; top = 0; owed = 0; columns = columns }
 
   -- each fits, or not
-  each_digested : (i : ℕ) → (digest_to k t begun i).digest.ok ≡ all (λ j. record_fits k j (get_or t j none)) i
+  each_digested : (i : ℕ) → (digest_to k t begun i).ok ≡ all (λ j. record_fits k j (get_or t j none)) i
   unfolding digest_to all
   each_digested zero = refl
-  each_digested (suc i) = of_choice (λ (z : Digested). z.digest.ok) (eqb (get_or t i none).kind 0) _ _ ∙ same_either (eqb (get_or t i none).kind 0) _ ∙ ap (λ (b : Bool). b && record_fits k i (get_or t i none)) (each_digested i)
+  each_digested (suc i) = of_choice (λ (z : Digest). z.ok) (eqb (get_or t i none).kind 0) _ _ ∙ same_either (eqb (get_or t i none).kind 0) _ ∙ ap (λ (b : Bool). b && record_fits k i (get_or t i none)) (each_digested i)
 
   -- what is noted as the highest is the highest listed position of those passed, fit or not
-  top_digested : (i : ℕ) → (digest_to k t begun i).digest.top ≡ highest (listed_at t) i
+  top_digested : (i : ℕ) → (digest_to k t begun i).top ≡ highest (listed_at t) i
   unfolding digest_to highest at
   top_digested zero = refl
-  top_digested (suc i) = of_choice (λ (z : Digested). z.digest.top) (eqb (get_or t i none).kind 0) _ _ ∙ choose_not (eqb (get_or t i none).kind 0) _ _ ∙ (λ j. choose (listed_at t (suc i)) (add-one i j) (top_digested i j))
+  top_digested (suc i) = of_choice (λ (z : Digest). z.top) (eqb (get_or t i none).kind 0) _ _ ∙ choose_not (eqb (get_or t i none).kind 0) _ _ ∙ (λ j. choose (listed_at t (suc i)) (add-one i j) (top_digested i j))
 
   owed_more : (b m : Bool) (y i : ℕ) → choose b y (choose (eqb y 0 && m) (i + 1) y) ≡ choose (eqb y 0 && (not b && m)) (suc i) y
   unfolding choose
@@ -81,10 +84,10 @@ module _ (k : ℕ) (t : List Node) (kinds indexes versions macs : List ℕ) wher
   owed_here i = first_more (wanted_at Owed t) i
 
   -- what is noted as owed is the lowest position owed the list of those passed
-  owed_digested : (i : ℕ) → (digest_to k t begun i).digest.owed ≡ first_or 0 (wanted_at Owed t) (up_from 1 i)
+  owed_digested : (i : ℕ) → (digest_to k t begun i).owed ≡ first_or 0 (wanted_at Owed t) (up_from 1 i)
   unfolding digest_to up_from first_or
   owed_digested zero = refl
-  owed_digested (suc i) = of_choice (λ (z : Digested). z.digest.owed) (eqb (get_or t i none).kind 0) _ _ ∙ ap (λ (y : ℕ). choose (eqb (get_or t i none).kind 0) y (owed_first y i (get_or t i none).owed)) (owed_digested i) ∙ owed_more (eqb (get_or t i none).kind 0) (eqb (get_or t i none).owed 1) (first_or 0 (wanted_at Owed t) (up_from 1 i)) i ∙ sym (owed_here i)
+  owed_digested (suc i) = of_choice (λ (z : Digest). z.owed) (eqb (get_or t i none).kind 0) _ _ ∙ ap (λ (y : ℕ). choose (eqb (get_or t i none).kind 0) y (owed_first y i (get_or t i none).owed)) (owed_digested i) ∙ owed_more (eqb (get_or t i none).kind 0) (eqb (get_or t i none).owed 1) (first_or 0 (wanted_at Owed t) (up_from 1 i)) i ∙ sym (owed_here i)
 
 -- the highest that is noted is one of them
 highest_le : (p : ℕ → Bool) (n : ℕ) → highest p n ≤ n
@@ -96,12 +99,12 @@ highest_le p (suc n) = go (p (suc n)) (highest_le p n)
     go true h = omega arith
     go false h = omega arith
 
-pub top_small : (k : ℕ) (t : List Node) (kinds indexes versions macs : List ℕ) (i : ℕ) → (digest_to k t (digested (dg true 0 0) kinds indexes versions macs) i).digest.top ≤ i
-top_small k t kinds indexes versions macs i = rw (top_digested k t kinds indexes versions macs i) (highest_le (listed_at t) i)
+pub top_small : (k : ℕ) (t : List Node) (columns : Columns) (i : ℕ) → (digest_to k t (record { ok = true; top = 0; owed = 0; columns = columns }) i).top ≤ i
+top_small k t columns i = rw (top_digested k t columns i) (highest_le (listed_at t) i)
 
 -- and so is the lowest owed
-pub owed_small : (k : ℕ) (t : List Node) (kinds indexes versions macs : List ℕ) (i : ℕ) → (digest_to k t (digested (dg true 0 0) kinds indexes versions macs) i).digest.owed ≤ i
-owed_small k t kinds indexes versions macs i = rw (owed_digested k t kinds indexes versions macs i) (go (first_case 0 (wanted_at Owed t) 1 i))
+pub owed_small : (k : ℕ) (t : List Node) (columns : Columns) (i : ℕ) → (digest_to k t (record { ok = true; top = 0; owed = 0; columns = columns }) i).owed ≤ i
+owed_small k t columns i = rw (owed_digested k t columns i) (go (first_case 0 (wanted_at Owed t) 1 i))
   where
     go : FirstCase 0 (wanted_at Owed t) 1 i (first_or 0 (wanted_at Owed t) (up_from 1 i)) → first_or 0 (wanted_at Owed t) (up_from 1 i) ≤ i
     go (inl (none, e)) = omega (arith, e)
@@ -153,47 +156,47 @@ module _ (k : ℕ) (t : List Node) (forty : length t ≡ 40) where
   all_forty = ap (digest_to k t zeroed) (let e : min (length t) 40 ≡ 40 = omega (arith, forty) in e)
 
   -- of forty records it is told whether each fits, which position is the highest listed, and which the lowest that is owed the list
-  digest_ok : (digest_all k t zeroed).digest.ok ≡ records_fit k t
-  digest_ok = ap (λ (z : Digested). z.digest.ok) all_forty ∙ each_digested k t _ _ _ _ 40
+  digest_ok : (digest_all k t zeroed).ok ≡ records_fit k t
+  digest_ok = ap (λ (z : Digest). z.ok) all_forty ∙ each_digested k t _ 40
 
-  digest_top : (digest_all k t zeroed).digest.top ≡ highest_listed t
+  digest_top : (digest_all k t zeroed).top ≡ highest_listed t
   unfolding highest_listed
-  digest_top = ap (λ (z : Digested). z.digest.top) all_forty ∙ top_digested k t _ _ _ _ 40
+  digest_top = ap (λ (z : Digest). z.top) all_forty ∙ top_digested k t _ 40
 
-  digest_owed : (digest_all k t zeroed).digest.owed ≡ lowest_of t Owed 40
+  digest_owed : (digest_all k t zeroed).owed ≡ lowest_of t Owed 40
   unfolding lowest_of
-  digest_owed = ap (λ (z : Digested). z.digest.owed) all_forty ∙ owed_digested k t _ _ _ _ 40
+  digest_owed = ap (λ (z : Digest). z.owed) all_forty ∙ owed_digested k t _ 40
 
   -- where each fits, the columns are those of the records
   module _ (fit : records_fit k t ≡ true) where
-    digest_kinds : (digest_all k t zeroed).kinds ≡ kinds_of t
+    digest_kinds : (digest_all k t zeroed).columns.kinds ≡ kinds_of t
     unfolding digest_to
-    digest_kinds = ap (λ (z : Digested). z.kinds) all_forty ∙ column kind_of (λ n e. (blank_is n e).0) k t forty (λ i. (digest_to k t zeroed i).kinds) refl (λ i. of_choice (λ (z : Digested). z.kinds) _ _ _) fit
+    digest_kinds = ap (λ (z : Digest). z.columns.kinds) all_forty ∙ column kind_of (λ n e. (blank_is n e).0) k t forty (λ i. (digest_to k t zeroed i).columns.kinds) refl (λ i. of_choice (λ (z : Digest). z.columns.kinds) _ _ _) fit
 
-    digest_indexes : (digest_all k t zeroed).indexes ≡ stored_indexes t
+    digest_indexes : (digest_all k t zeroed).columns.indexes ≡ stored_indexes t
     unfolding digest_to
-    digest_indexes = ap (λ (z : Digested). z.indexes) all_forty ∙ column stored_index (λ n e. (blank_is n e).2) k t forty (λ i. (digest_to k t zeroed i).indexes) refl (λ i. of_choice (λ (z : Digested). z.indexes) _ _ _) fit
+    digest_indexes = ap (λ (z : Digest). z.columns.indexes) all_forty ∙ column stored_index (λ n e. (blank_is n e).2) k t forty (λ i. (digest_to k t zeroed i).columns.indexes) refl (λ i. of_choice (λ (z : Digest). z.columns.indexes) _ _ _) fit
 
-    digest_versions : (digest_all k t zeroed).versions ≡ versions_of t
+    digest_versions : (digest_all k t zeroed).columns.versions ≡ versions_of t
     unfolding digest_to
-    digest_versions = ap (λ (z : Digested). z.versions) all_forty ∙ column stored_version (λ n e. (blank_is n e).3) k t forty (λ i. (digest_to k t zeroed i).versions) refl (λ i. of_choice (λ (z : Digested). z.versions) _ _ _) fit
+    digest_versions = ap (λ (z : Digest). z.columns.versions) all_forty ∙ column stored_version (λ n e. (blank_is n e).3) k t forty (λ i. (digest_to k t zeroed i).columns.versions) refl (λ i. of_choice (λ (z : Digest). z.columns.versions) _ _ _) fit
 
-    digest_macs : (digest_all k t zeroed).macs ≡ macs_of t
+    digest_macs : (digest_all k t zeroed).columns.macs ≡ macs_of t
     unfolding digest_to
-    digest_macs = ap (λ (z : Digested). z.macs) all_forty ∙ column mac_of (λ n e. (blank_is n e).1) k t forty (λ i. (digest_to k t zeroed i).macs) refl (λ i. of_choice (λ (z : Digested). z.macs) _ _ _) fit
+    digest_macs = ap (λ (z : Digest). z.columns.macs) all_forty ∙ column mac_of (λ n e. (blank_is n e).1) k t forty (λ i. (digest_to k t zeroed i).columns.macs) refl (λ i. of_choice (λ (z : Digest). z.columns.macs) _ _ _) fit
 
 -- what was noted of forty records tells whether each fits, and where each does, it is what there is to be seen of them
-pub digest_columned : (s : Seen) (k : ℕ) (t : List Node) (d : Digested) → length t ≡ 40 → d ≡ digest_all k t zeroed
-    → (d.digest.ok ≡ records_fit k t) × (records_fit k t ≡ true → s.top ≡ d.digest.top → s.owed ≡ d.digest.owed → Columned s d.kinds d.indexes d.versions d.macs t)
+pub digest_columned : (s : Seen) (k : ℕ) (t : List Node) (d : Digest) → length t ≡ 40 → d ≡ digest_all k t zeroed
+    → (d.ok ≡ records_fit k t) × (records_fit k t ≡ true → s.top ≡ d.top → s.owed ≡ d.owed → Columned s d.columns t)
 digest_columned s k t d forty e = (
-  ap (λ (z : Digested). z.digest.ok) e ∙ digest_ok k t forty,
+  ap (λ (z : Digest). z.ok) e ∙ digest_ok k t forty,
   λ fit top owed.
       record {
-        kinds = ap (λ (z : Digested). z.kinds) e ∙ digest_kinds k t forty fit;
-        indexes = ap (λ (z : Digested). z.indexes) e ∙ digest_indexes k t forty fit;
-        versions = ap (λ (z : Digested). z.versions) e ∙ digest_versions k t forty fit;
-        macs = ap (λ (z : Digested). z.macs) e ∙ digest_macs k t forty fit;
-        top = top ∙ ap (λ (z : Digested). z.digest.top) e ∙ digest_top k t forty;
-        owed = owed ∙ ap (λ (z : Digested). z.digest.owed) e ∙ digest_owed k t forty;
+        kinds = ap (λ (z : Digest). z.columns.kinds) e ∙ digest_kinds k t forty fit;
+        indexes = ap (λ (z : Digest). z.columns.indexes) e ∙ digest_indexes k t forty fit;
+        versions = ap (λ (z : Digest). z.columns.versions) e ∙ digest_versions k t forty fit;
+        macs = ap (λ (z : Digest). z.columns.macs) e ∙ digest_macs k t forty fit;
+        top = top ∙ ap (λ (z : Digest). z.top) e ∙ digest_top k t forty;
+        owed = owed ∙ ap (λ (z : Digest). z.owed) e ∙ digest_owed k t forty;
       },
 )

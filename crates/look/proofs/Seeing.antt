@@ -11,6 +11,7 @@ use borrow.Author.Tests.{eq-eqb, eqb-true, not-false}
 use Rattle.ground.proofs.Choices.{and_left}
 use Rattle.ground.proofs.Highest.{HighestCase}
 use Rattle.board.specs.declared.Node.{Node}
+use Rattle.board.specs.declared.Columns.{Columns}
 use Rattle.board.specs.Table.{at, listed_at}
 use Rattle.board.specs.declared.Wanted.TheVariants.{Owed}
 use Rattle.board.specs.Wanted.{lowest_of, highest_listed}
@@ -18,7 +19,7 @@ use Rattle.board.specs.Columns.{kind_of, kinds_of, stored_index, stored_indexes,
 use Rattle.board.specs.Types.{too_many_types}
 use Rattle.board.proofs.LowestWanted.{highest_listed_case, highest_within, owed_to_top, some_highest}
 use Rattle.board.proofs.SameKinds.{SameKinds, kinds_listed}
-use Rattle.board.proofs.Columns.{typed_kinds, column_of, forty_whole, Blanks}
+use Rattle.board.proofs.Column.{typed_kinds, column_of, forty_whole, Blanks}
 use Rattle.setup.specs.Fit.{records_fit, are_apart, are_numbered, table_fits}
 use Rattle.setup.proofs.Tables.{boards_listed, table_told}
 use Rattle.coordinator.specs.declared.Coordinator.{Coordinator}
@@ -67,24 +68,24 @@ top_within c t fit = go (highest_listed_case t)
 owed_within : (c : Coordinator) (t : List Node) → fits c t ≡ true → lowest_of t Owed 40 ≡ lowest_of t Owed c.setup.k
 owed_within c t fit = owed_to_top t 40 (highest_within t) ∙ sym (owed_to_top t c.setup.k (top_within c t fit))
 
-module _ {s : Seen} {ks xs vs ms : List ℕ} {c : Coordinator} {t : List Node} (sees : Sees s ks xs vs ms c t) where
+module _ {s : Seen} {columns : Columns} {c : Coordinator} {t : List Node} (sees : Sees s columns c t) where
   -- what is seen tells whether coordinator and records are fit
-  pub fits_seen_lem : fits_seen s ks xs vs ms ≡ fits c t
+  pub fits_seen_lem : fits_seen s columns ≡ fits c t
   unfolding fits_seen fits table_fits hold_fits
   fits_seen_lem = go s.ok refl
     where
-      go : (b : Bool) → s.ok ≡ b → fits_seen s ks xs vs ms ≡ fits c t
+      go : (b : Bool) → s.ok ≡ b → fits_seen s columns ≡ fits c t
       go false e = rw (eq-eqb (length t) 40 sees.forty, sees.setup, e, (let r : records_fit c.setup.k t ≡ false = sym sees.each ∙ e in r)) refl
       go true e =
-          let cols = sees.columns e in
+          let cols = sees.columned e in
           let r : records_fit c.setup.k t ≡ true = sym sees.each ∙ e in
           rw (eq-eqb (length t) 40 sees.forty, sees.setup, sees.state, e, r, cols.kinds, cols.indexes, cols.versions, cols.macs, cols.top, boards_listed c.setup.k t sees.forty r, forty_whole (kinds_of t) (length-map t kind_of ∙ sees.forty), forty_whole (versions_of t) (length-map t stored_version ∙ sees.forty), phase_same (typed_kinds t sees.forty) (phase_of c.stand) c.kept, some_highest t) refl
 
   -- and of fit ones all of it
   module _ (fit : fits c t ≡ true) where
-    pub fit_columns : Columned s ks xs vs ms t
+    pub fit_columns : Columned s columns t
     unfolding table_fits
-    fit_columns = sees.columns (sees.each ∙ and_left (records_fit c.setup.k t) (are_apart (macs_of t) && are_numbered t && not (too_many_types (kinds_of t) (versions_of t))) (fits_table c t fit))
+    fit_columns = sees.columned (sees.each ∙ and_left (records_fit c.setup.k t) (are_apart (macs_of t) && are_numbered t && not (too_many_types (kinds_of t) (versions_of t))) (fits_table c t fit))
 
     pub saw : Saw s c t
     saw = record { fit = fit; setup = sees.setup; state = sees.state; top = fit_columns.top; owed = fit_columns.owed ∙ owed_within c t fit }

@@ -8,7 +8,7 @@ ghost use Rattle.frame.specs.Frame.{reading, writing, written_bytes, write_numbe
 ghost use Rattle.frame.specs.ReadyHeader.{ready_of, ready_bytes};
 ghost use Rattle.measure.specs.Numbers.{read_numbers};
 
-use frame::{Header, Reading, Ready, WriteNumbers};
+use frame::{Header, Ready, WriteNumbers};
 
 // A reading: the refusal's number or 0, and the header and the payload's length, all 0 on a refusal.
 #[repr(C)]
@@ -33,31 +33,16 @@ pub extern "C" fn measure_read(ours: u8, bytes: &[u8]) -> ReadNumbers
     ensures { result ≡ read_numbers (reading ours bytes.now) }
 {
     match frame::read(ours, bytes) {
-        Reading::Frame(header, n) => {
-            ReadNumbers {
-                refusal: 0,
-                header: header,
-                length: n,
-            }
-        }
-        Reading::Refused(refusal) => {
-            let header = Header {
-                destination: 0,
-                source: 0,
-                subnet: 0,
-                method: 0,
-                parameter1: 0,
-                parameter2: 0,
-                kind: 0,
-                message: 0,
-                packet: 0,
-            };
-            ReadNumbers {
-                refusal: refusal::number(refusal),
-                header: header,
-                length: 0,
-            }
-        }
+        Ok(frame) => ReadNumbers {
+            refusal: 0,
+            header: frame.header,
+            length: frame.length,
+        },
+        Err(refusal) => ReadNumbers {
+            refusal: refusal::number(refusal),
+            header: Header::default(),
+            length: 0,
+        },
     }
 }
 

@@ -2,7 +2,7 @@
 use Rattle.std.specs.Prelude.{ℕ, ◌≡◌, List, [], ◌∷◌, ◌++◌, length}
 use Rattle.ground.specs.Bytes.{laid}
 use Rattle.frame.specs.declared.Header.{Header}
-use Rattle.frame.specs.declared.Writing.{Writing}
+use Rattle.frame.specs.Frame.{Writing}
 use Rattle.frame.specs.Frame.{frame_of, told_written, writing, written_bytes}
 use Rattle.word.specs.Words.{bytes_of}
 use Rattle.board.specs.declared.Node.{Node}

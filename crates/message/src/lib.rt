@@ -8,18 +8,29 @@ ghost use Rattle.nodelist.specs.Condensed.{condensed};
 ghost use Rattle.nodelist.specs.List.{list_to, list_over};
 ghost use Rattle.message.specs.Message.{to_board, own_header, signed, signed_header, list_header, broadcast_header, discovery_header, every_kind, identify_header, assign_header, assignment, Sends};
 
-use frame::{Header, Writing};
+use board::Columns;
+use frame::Header;
+use refusal::Refusal;
 use setup::Setup;
+
+// Whom a message of ours goes to: a position, the version of the board there, which tells the subnet, and its index, which is parameter 2.
+#[derive(Clone, Copy)]
+pub struct Addressee {
+    pub board: usize,
+    pub version: u8,
+    pub index: u8,
+}
 
 // A header sent to a board of a version: to its address, from us, in its subnet.
 fn to_board(setup: Setup, board: usize, version: u8, header: Header) -> Header
     ensures { result ≡ to_board setup board version header }
 {
-    let mut h = header;
-    h.destination = setup::address_at(setup, board);
-    h.source = 255;
-    h.subnet = setup::subnet_of(setup, version);
-    h
+    Header {
+        destination: setup::address_at(setup, board),
+        source: 255,
+        subnet: setup::subnet_of(setup, version),
+        ..header
+    }
 }
 
 // Writes a frame to a board of a version. Whom a frame goes to and comes from is said here only; the other fields are the header's.
@@ -30,64 +41,50 @@ pub fn write_to(
     header: Header,
     payload: &[u8],
     out: &mut [u8],
-) -> Writing
+) -> Result<usize, Refusal>
     ensures { Sends (to_board setup board version header) payload.now result out.old out.new }
 {
     frame::write(to_board(setup, board, version, header), payload, out)
 }
 
-// Writes a message of our own to a board of this version and with this index. The header's first three fields are `write_to`'s to say.
+// Writes a message of our own to a board. The header's first three fields are `write_to`'s to say.
 fn write_own(
     setup: Setup,
-    board: usize,
-    version: u8,
-    index: u8,
+    to: Addressee,
     message: u8,
     packet: u8,
     payload: &[u8],
     out: &mut [u8],
-) -> Writing
-    ensures { Sends (own_header setup board version index message packet) payload.now result out.old out.new }
+) -> Result<usize, Refusal>
+    ensures { Sends (own_header setup to.board to.version to.index message packet) payload.now result out.old out.new }
 {
     let header = Header {
-        destination: 0,
-        source: 0,
-        subnet: 0,
-        method: 0,
-        parameter1: 0,
-        parameter2: index,
+        parameter2: to.index,
         kind: 165,
-        message: message,
-        packet: packet,
+        message,
+        packet,
+        ..Header::default()
     };
-    write_to(setup, board, version, header, payload, out)
+    write_to(setup, to.board, to.version, header, payload, out)
 }
 
 // A code, then our MAC and our session.
+#[tactic(auto, unfolding(crate::specs::Message::signed, word::specs::Words::bytes_of))]
 fn signed_bytes(setup: Setup, code: u8) -> [u8; 17]
     ensures { result ≡ signed setup code }
 {
-    let m = word::bytes_of(setup.mac);
-    let s = word::bytes_of(setup.session);
-    [
-        code, m[0], m[1], m[2], m[3], m[4], m[5], m[6], m[7], s[0], s[1], s[2], s[3], s[4], s[5],
-        s[6], s[7],
-    ]
+    let mut bytes = [0; 17];
+    bytes[0] = code;
+    bytes[1..9].copy_from_slice(&word::bytes_of(setup.mac));
+    bytes[9..].copy_from_slice(&word::bytes_of(setup.session));
+    bytes
 }
 
 // Writes the offer to a board with code 0, the ACK with code 6.
-pub fn write_signed(
-    setup: Setup,
-    board: usize,
-    version: u8,
-    index: u8,
-    code: u8,
-    out: &mut [u8],
-) -> Writing
-    ensures { Sends (signed_header setup board version index) (signed setup code) result out.old out.new }
+pub fn write_signed(setup: Setup, to: Addressee, code: u8, out: &mut [u8]) -> Result<usize, Refusal>
+    ensures { Sends (signed_header setup to.board to.version to.index) (signed setup code) result out.old out.new }
 {
-    let payload = signed_bytes(setup, code);
-    write_own(setup, board, version, index, 0, 0x80, &payload, out)
+    write_own(setup, to, 0, 0x80, &signed_bytes(setup, code), out)
 }
 
 // Writes the whole node list to a board, up to the highest listed position. It has at most 41 bytes, so that the buffer
@@ -96,121 +93,90 @@ fn write_whole(
     setup: Setup,
     kinds: &[u8; 40],
     top: usize,
-    board: usize,
-    version: u8,
-    index: u8,
+    to: Addressee,
     out: &mut [u8],
-) -> Writing
-    ensures { Sends (list_header setup board version index) (list_to top setup.internal (typed kinds.now)) result out.old out.new }
+) -> Result<usize, Refusal>
+    ensures { Sends (list_header setup to.board to.version to.index) (list_to top setup.internal (typed kinds.now)) result out.old out.new }
 {
-    let mut payload = [0u8; 41];
-    nodelist::write_list(setup.internal, kinds, top, &mut payload);
-    let n = nodelist::list_length(top);
-    write_own(setup, board, version, index, 0x14, 0, &payload[..n], out)
+    let mut payload = [0; 41];
+    let n = nodelist::write_list(setup.internal, kinds, top, &mut payload)?;
+    write_own(setup, to, 0x14, 0, &payload[..n], out)
 }
 
 // Writes the condensed node list to a board.
 fn write_condensed(
     setup: Setup,
-    kinds: &[u8; 40],
-    versions: &[u8; 40],
-    board: usize,
-    version: u8,
-    index: u8,
+    columns: &Columns,
+    to: Addressee,
     out: &mut [u8],
-) -> Writing
-    ensures { Sends (list_header setup board version index) (condensed setup.internal kinds.now versions.now) result out.old out.new }
+) -> Result<usize, Refusal>
+    ensures { Sends (list_header setup to.board to.version to.index) (condensed setup.internal columns.now.kinds columns.now.versions) result out.old out.new }
 {
-    let payload = nodelist::condense(setup.internal, kinds, versions);
-    write_own(setup, board, version, index, 0x14, 0, &payload, out)
+    let payload = nodelist::condense(setup.internal, columns);
+    write_own(setup, to, 0x14, 0, &payload, out)
 }
 
 // Writes the node list to a board in the form of its version.
 pub fn write_list(
     setup: Setup,
-    kinds: &[u8; 40],
-    versions: &[u8; 40],
+    columns: &Columns,
     top: usize,
-    board: usize,
-    version: u8,
-    index: u8,
+    to: Addressee,
     out: &mut [u8],
-) -> Writing
-    ensures { Sends (list_header setup board version index) (list_over version top setup.internal kinds.now versions.now) result out.old out.new }
+) -> Result<usize, Refusal>
+    ensures { Sends (list_header setup to.board to.version to.index) (list_over to.version top setup.internal columns.now.kinds columns.now.versions) result out.old out.new }
 {
-    if version == 1 {
-        return write_condensed(setup, kinds, versions, board, version, index, out);
+    if to.version == 1 {
+        return write_condensed(setup, columns, to, out);
     }
-    write_whole(setup, kinds, top, board, version, index, out)
+    write_whole(setup, &columns.kinds, top, to, out)
 }
 
 // Writes a broadcast of the exchange by which a board joins.
-fn write_broadcast(message: u8, packet: u8, payload: &[u8], out: &mut [u8]) -> Writing
+fn write_broadcast(
+    message: u8,
+    packet: u8,
+    payload: &[u8],
+    out: &mut [u8],
+) -> Result<usize, Refusal>
     ensures { Sends (broadcast_header message packet) payload.now result out.old out.new }
 {
     let header = Header {
-        destination: 0,
         source: 255,
-        subnet: 0,
-        method: 0,
-        parameter1: 0,
-        parameter2: 0,
         kind: 165,
-        message: message,
-        packet: packet,
+        message,
+        packet,
+        ..Header::default()
     };
     frame::write(header, payload, out)
 }
 
 // Writes Node Discovery, to every node type.
-pub fn write_discovery(out: &mut [u8]) -> Writing
+pub fn write_discovery(out: &mut [u8]) -> Result<usize, Refusal>
     ensures { Sends discovery_header every_kind result out.old out.new }
 {
-    let payload = [0u8; 1];
-    write_broadcast(0x79, 0x20, &payload, out)
+    write_broadcast(0x79, 0x20, &[0], out)
 }
 
 // Writes Get Node ID to the address of a position, in the subnet of a version.
-pub fn write_identify(
-    setup: Setup,
-    position: usize,
-    version: u8,
-    index: u8,
-    out: &mut [u8],
-) -> Writing
-    ensures { Sends (identify_header setup position version index) [] result out.old out.new }
+pub fn write_identify(setup: Setup, to: Addressee, out: &mut [u8]) -> Result<usize, Refusal>
+    ensures { Sends (identify_header setup to.board to.version to.index) [] result out.old out.new }
 {
-    let payload = [0u8; 1];
-    write_own(setup, position, version, index, 0x7B, 0, &payload[..0], out)
+    write_own(setup, to, 0x7B, 0, &[], out)
 }
 
 // The address of a position, the subnet of a version, then the MAC and the session of whom it is for, and 1.
+#[tactic(auto, unfolding(crate::specs::Message::assignment, word::specs::Words::bytes_of))]
 fn assignment_bytes(setup: Setup, position: usize, version: u8, mac: u64, session: u64) -> [u8; 19]
     ensures { result ≡ assignment setup position version mac session }
 {
-    let m = word::bytes_of(mac);
-    let s = word::bytes_of(session);
-    [
-        setup::address_at(setup, position),
-        setup::subnet_of(setup, version),
-        m[0],
-        m[1],
-        m[2],
-        m[3],
-        m[4],
-        m[5],
-        m[6],
-        m[7],
-        s[0],
-        s[1],
-        s[2],
-        s[3],
-        s[4],
-        s[5],
-        s[6],
-        s[7],
-        1,
-    ]
+    let mut bytes = [0; 19];
+    bytes[0] = setup::address_at(setup, position);
+    bytes[1] = setup::subnet_of(setup, version);
+    bytes[2..10].copy_from_slice(&word::bytes_of(mac));
+    bytes[10..18].copy_from_slice(&word::bytes_of(session));
+    bytes[18] = 1;
+    bytes
 }
 
 // Writes Set Address: who has this MAC and this session shall have the address of a position, in the subnet of a version.
@@ -221,9 +187,13 @@ pub fn write_assign(
     mac: u64,
     session: u64,
     out: &mut [u8],
-) -> Writing
+) -> Result<usize, Refusal>
     ensures { Sends assign_header (assignment setup position version mac session) result out.old out.new }
 {
-    let payload = assignment_bytes(setup, position, version, mac, session);
-    write_broadcast(0x7A, 0, &payload, out)
+    write_broadcast(
+        0x7A,
+        0,
+        &assignment_bytes(setup, position, version, mac, session),
+        out,
+    )
 }

@@ -2,16 +2,19 @@
 use Prim.Native.Nat.{ℕ, suc, ◌+◌, ◌-◌, ◌≤◌, ◌<◌}
 use native.Mathlib.Omega.{arith}
 use native.Mathlib.Decide.{ℕ_discrete, dec_lt}
-use mathlib.Core.Path.{◌≡◌, refl, ap, ◌∙◌}
+use mathlib.Core.Path.{◌≡◌, ap, ◌∙◌}
 use mathlib.Core.Logic.{inl, inr}
 use mathlib.Core.Bool.{Bool, false}
 use mathlib.Core.List.{List, ◌∷◌}
 use lib.Dec.{eqb}
 use lib.ListN.{length, get_or, set}
 use lib.Seq.{get_or-set_same, get_or-set_other}
-use borrow.Author.Tests.{eqb-false, eq-eqb, ne_eqb}
+use borrow.Author.Tests.{eqb-false, ne_eqb}
 use Rattle.ground.specs.Below.{up_from, first_or}
-use Rattle.ground.proofs.Firsts.{FirstCase, First, first_case, first_is, none_is, first_hit, first_miss, first_none}
+use Rattle.ground.proofs.Firsts.{FirstCase, First, first_case, first_is, none_is}
+use Rattle.std.proofs.Common.{unwrap_or, find}
+use Rattle.std.specs.List.{range_with_len}
+use Rattle.board.proofs.Searches.{found_first, range_run}
 use Rattle.nodelist.specs.Condensed.{open_byte}
 
 abbrev is_free : List ℕ → ℕ → Bool
@@ -21,16 +24,9 @@ is_free list i = eqb (get_or list i 0) 0
 abbrev pub open_from : List ℕ → ℕ → ℕ
 open_from list from = first_or 16 (is_free list) (up_from from (16 - from))
 
--- a loop that looks for it
-module _ (list : List ℕ) (i : ℕ) {s : ℕ} (e : s ≡ open_from list i) where
-  pub open_hit : i < 16 → get_or list i 0 ≡ 0 → i ≡ s
-  open_hit l h = first_hit 16 (is_free list) i (16 - i) s _ e (omega (arith, l)) refl (eq-eqb (get_or list i 0) 0 h)
-
-  pub open_miss : i < 16 → (get_or list i 0 ≡ 0 → ⊥) → s ≡ open_from list (i + 1)
-  open_miss l h = first_miss 16 (is_free list) i (16 - i) s _ e (omega (arith, l)) refl (ne_eqb (get_or list i 0) 0 h) ∙ ap (λ (n : ℕ). first_or 16 (is_free list) (up_from (i + 1) n)) (let q : 16 - i - 1 ≡ 16 - (i + 1) = omega arith in q)
-
-  pub open_none : 16 ≤ i → 16 ≡ s
-  open_none l = first_none 16 (is_free list) i (16 - i) s e (omega (arith, l))
+-- as the library finds it
+pub open_found : (list : List ℕ) (from : ℕ) → unwrap_or (find (is_free list) (range_with_len from (16 - from))) 16 ≡ open_from list from
+open_found list from = found_first 16 (is_free list) (range_with_len from (16 - from)) ∙ ap (first_or 16 (is_free list)) (range_run from (16 - from))
 
 -- where none below is open, it is the lowest of all
 pub open_lowest : (internal : ℕ) (bytes : List ℕ) (from : ℕ) → 1 ≤ from → from ≤ 16 → ((j : ℕ) → suc j < from → 0 < get_or bytes j 0) → open_from (internal ∷ bytes) from ≡ open_byte bytes + 1

@@ -1,5 +1,6 @@
 -- The two passes as the code makes them: one position more, by the marks, in the list with byte 0 in front.
-use Prim.Native.Nat.{ℕ, suc, ◌+◌, ◌≤◌, ◌<◌}
+use native.Mathlib.Decide.{ℕ_discrete}
+use Prim.Native.Nat.{ℕ, zero, suc, ◌+◌, ◌≤◌, ◌<◌}
 use native.Mathlib.Omega.{arith}
 use native.Mathlib.Numerals.{add-one}
 use mathlib.Core.Path.{◌≡◌, refl, sym, subst, ap, ◌∙◌}
@@ -26,9 +27,6 @@ module _ (internal : ℕ) (kinds versions : List ℕ) where
   stood_begun m = (refl, record { size = m.size; each = λ k p l. m.each k p l ∙ ap one (sym (free_none k p)) })
 
   module _ (i : ℕ) {list marks : List ℕ} (n : Noted internal (standing_to kinds versions i) list marks) where
-    pub stood_end : i ≤ 15 → 15 ≤ i → Noted internal (standing_to kinds versions 15) list marks
-    stood_end a b = subst (λ (x : ℕ). Noted internal (standing_to kinds versions x) list marks) (omega (arith, a, b)) n
-
     -- a board of another version is passed over
     pub stood_over : (get_or versions i 0 ≡ 1 → ⊥) → Noted internal (standing_to kinds versions (i + 1)) list marks
     unfolding standing_to
@@ -69,17 +67,19 @@ module _ (internal : ℕ) (bytes kinds : List ℕ) (i : ℕ) {list marks : List 
   abbrev kind : ℕ
   kind = get_or kinds i 0
 
-  pub filling_end : i ≤ 40 → 40 ≤ i → list ≡ internal ∷ filled_to bytes kinds 40
-  filling_end a b = f.0.0 ∙ ap (λ (n : ℕ). internal ∷ filled_to bytes kinds n) (let e : i ≡ 40 = omega (arith, a, b) in e)
-
-  -- where no byte is open, nothing is written
-  pub filling_full : 16 ≤ lowest → Filling internal (filled_to bytes kinds (i + 1)) list marks lowest
-  unfolding choose
-  filling_full l = subst (λ (x : List ℕ). Filling internal x list marks lowest) (go (is_new now kind) ∙ next_filled bytes kinds i) f
+  -- where no byte is open, nothing more is written
+  pub filling_full : 16 ≤ lowest → (n : ℕ) → i ≤ n → filled_to bytes kinds n ≡ now
+  unfolding filled_to choose
+  filling_full l zero h = ap (filled_to bytes kinds) (let e : 0 ≡ i = omega (arith, h) in e)
+  filling_full l (suc n) h = go (ℕ_discrete i (suc n)) (λ (k : i ≤ n). filling_full l n k)
     where
-      go : (b : Bool) → now ≡ choose b (set now (open_byte now) kind) now
-      go true = sym (set_out now (open_byte now) kind (omega (arith, l, f.1, f.2)))
-      go false = refl
+      kept : (b : Bool) (k : ℕ) → choose b (set now (open_byte now) k) now ≡ now
+      kept true k = set_out now (open_byte now) k (omega (arith, l, f.1, f.2))
+      kept false k = refl
+
+      go : Dec (i ≡ suc n) → (i ≤ n → filled_to bytes kinds n ≡ now) → filled_to bytes kinds (suc n) ≡ now
+      go (yes e) r = ap (filled_to bytes kinds) (sym e)
+      go (no ne) r = ap (λ (x : List ℕ). choose (is_new x (get_or kinds n 0)) (set x (open_byte x) (get_or kinds n 0)) x) (r (omega (arith, h, ne))) ∙ kept (is_new now (get_or kinds n 0)) (get_or kinds n 0)
 
   module _ (l : lowest < 16) (byte : kind < 256) {r : Bool} {marked : List ℕ} (seen : r ≡ is_unmarked marks kind) (mark : marked ≡ set marks kind 1) where
     -- so the marks are kept, whatever comes of it
@@ -107,9 +107,8 @@ module _ (internal : ℕ) (bytes kinds : List ℕ) (i : ℕ) {list marks : List 
         same = choose_yes _ _ _ _ (told_new e) refl ∙ next_filled bytes kinds i
 
 -- one pass after the other
-pub stood_filling : (internal : ℕ) (bytes : List ℕ) {list marks : List ℕ} → Noted internal bytes list marks → length bytes ≡ 15 → (length list ≡ 16) × Marks (drop 1 list) marks
-stood_filling internal bytes {list} {marks} (held, m) size =
-    (ap length held ∙ ap suc size, subst (λ (l : List ℕ). Marks (drop 1 l) marks) (sym held) m)
+pub stood_filling : (internal : ℕ) (bytes : List ℕ) {list marks : List ℕ} → Noted internal bytes list marks → Marks (drop 1 list) marks
+stood_filling internal bytes {list} {marks} (held, m) = subst (λ (l : List ℕ). Marks (drop 1 l) marks) (sym held) m
 
 pub both_passes : (internal : ℕ) (kinds versions : List ℕ) {list after : List ℕ} → list ≡ internal ∷ standing_to kinds versions 15 → after ≡ get_or list 0 0 ∷ filled_to (drop 1 list) kinds 40 → after ≡ condensed internal kinds versions
 unfolding condensed

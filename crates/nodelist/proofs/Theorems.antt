@@ -5,12 +5,14 @@ use native.Mathlib.Numerals.{add-one}
 use native.Mathlib.Decide.{dec_lt}
 use mathlib.Core.Path.{◌≡◌, refl, ap, ◌∙◌, sym}
 use mathlib.Core.Logic.{inl, inr}
-use mathlib.Core.List.{List, ◌∷◌, map}
-use mathlib.Core.Bool.{Bool, true, false, not, false≢true}
-use lib.ListN.{length, get_or, drop, length-drop, length-map, get_or-eq_default}
-use lib.Seq.{ext_get_or, get_or-drop}
+use mathlib.Core.List.{List, [], ◌∷◌, map}
+use mathlib.Core.Bool.{Bool, true, false, ◌&&◌, not, false≢true}
+use lib.ListN.{length, get_or, take, drop, length-drop, length-map, get_or-eq_default}
+use lib.Seq.{ext_get_or, get_or-drop, take_all}
 use lib.Dec.{eqb}
 use borrow.Author.Tests.{eq-eqb, ne_eqb, eqb-true}
+use Rattle.std.specs.Str.{bytes_eq}
+use Rattle.std.proofs.lemmas.Slice.Eq.{bytes_eq-Decides}
 use Rattle.ground.specs.Choose.{choose}
 use Rattle.ground.specs.Below.{all, among, up_from}
 use Rattle.ground.proofs.Choices.{and_left, and_right, both, not_yes, alike}
@@ -20,17 +22,17 @@ use Rattle.ground.proofs.Highest.{HighestCase}
 use Rattle.board.specs.declared.Node.{Node}
 use Rattle.board.specs.Node.{is_old}
 use Rattle.board.specs.Table.{at, listed_at}
-use Rattle.board.specs.Columns.{kind_of, kinds_of, stored_version, versions_of}
+use Rattle.board.specs.Columns.{kind_of, kinds_of, stored_version, versions_of, typed}
 use Rattle.board.specs.Types.{type_count}
 use Rattle.board.specs.Wanted.{highest_listed}
 use Rattle.board.proofs.Positions.{at_alike, listed_within}
-use Rattle.board.proofs.Columns.{column_next, typed_kinds}
+use Rattle.board.proofs.Column.{column_next, typed_kinds}
 use Rattle.board.proofs.Types.{column_has, column_holds}
 use Rattle.board.proofs.LowestWanted.{highest_listed_case, highest_within}
 use Rattle.board.proofs.SameKinds.{SameKinds, kinds_highest}
 use Rattle.nodelist.specs.Condensed.{condensed}
 use Rattle.nodelist.specs.List.{kind_at, node_list, list_length, list_for, same_bytes, written, output, list_to, written_to, output_to, list_over}
-use Rattle.nodelist.proofs.Bytes.{same_byte, length_to_top, list_to_top, list_size, list_byte}
+use Rattle.nodelist.proofs.Bytes.{length_to_top, list_taken, list_to_top, list_size, list_byte}
 use Rattle.nodelist.proofs.Condensed.{condensed_size, condensed_first, condensed_types, condensed_standing}
 
 -- a position that is not listed has type 0
@@ -79,6 +81,10 @@ ends_listed internal t h = ap (listed_at t) (let e : length (node_list internal 
 pub at_most : (internal : ℕ) (t : List Node) → length (node_list internal t) ≤ 41
 at_most internal t = rw (list_size internal t) (omega (arith, highest_within t))
 
+-- what is compared, byte by byte
+unfoldable same_byte : List ℕ → List ℕ → ℕ → Bool
+same_byte sent bytes i = eqb (get_or bytes i 0) (get_or sent i 0)
+
 -- comparing says yes exactly where the bytes are those sent
 pub same_yes : (sent bytes : List ℕ) → same_bytes sent bytes ≡ true → bytes ≡ sent
 unfolding same_bytes same_byte
@@ -93,6 +99,33 @@ same_yes sent bytes h = ext_get_or 0 bytes sent size each
 pub same_of : (sent bytes : List ℕ) → bytes ≡ sent → same_bytes sent bytes ≡ true
 unfolding same_bytes same_byte
 same_of sent bytes e = both _ _ (eq-eqb (length bytes) (length sent) (ap length e)) (all_of (same_byte sent bytes) (length sent) (λ i l. eq-eqb _ _ (ap (λ (b : List ℕ). get_or b i 0) e)))
+
+-- so does the library, comparing slices
+pub same_slices : (sent bytes : List ℕ) → bytes_eq bytes sent ≡ same_bytes sent bytes
+same_slices sent bytes = alike _ _ (λ h. same_of sent bytes ((bytes_eq-Decides bytes sent).0 h)) (λ h. (bytes_eq-Decides bytes sent).1 (same_yes sent bytes h))
+
+-- of the whole list: byte 0 is compared with the internal type, and the others with the front of the column
+module _ (top internal : ℕ) (kinds : List ℕ) (size : length kinds ≡ 40) where
+  whole : (received : List ℕ) → bytes_eq received (internal ∷ take (min top 40) kinds) ≡ same_bytes (list_to top internal (typed kinds)) received
+  whole received = same_slices (internal ∷ take (min top 40) kinds) received ∙ ap (λ (l : List ℕ). same_bytes l received) (sym (list_taken top internal kinds size))
+
+  pub whole_empty : (received : List ℕ) → length received < 1 → false ≡ same_bytes (list_to top internal (typed kinds)) received
+  whole_empty [] l = whole []
+  whole_empty (x ∷ received) l = absurd (let z : ⊥ = omega (arith, l) in z)
+
+  pub whole_other : (received : List ℕ) → 1 ≤ length received → (get_or received 0 0 ≡ internal → ⊥) → eqb (get_or received 0 0) internal ≡ same_bytes (list_to top internal (typed kinds)) received
+  whole_other [] l ne = absurd (let z : ⊥ = omega (arith, l) in z)
+  whole_other (x ∷ received) l ne = go (eqb x internal) (ne_eqb x internal ne) ∙ whole (x ∷ received)
+    where
+      go : (b : Bool) → b ≡ false → b ≡ (b && bytes_eq received (take (min top 40) kinds))
+      go b e = rw e refl
+
+  pub whole_rest : (received : List ℕ) (n : ℕ) → n ≡ min top 40 → 1 ≤ length received → get_or received 0 0 ≡ internal → bytes_eq (take (length received - 1) (drop 1 received)) (take n kinds) ≡ same_bytes (list_to top internal (typed kinds)) received
+  whole_rest [] n e l h = absurd (let z : ⊥ = omega (arith, l) in z)
+  whole_rest (x ∷ received) n e l h = ap (λ (r : List ℕ). bytes_eq r (take n kinds)) (take_all _ received (omega arith)) ∙ ap (λ (m : ℕ). bytes_eq received (take m kinds)) e ∙ go (eqb x internal) (eq-eqb x internal h) ∙ whole (x ∷ received)
+    where
+      go : (b : Bool) → b ≡ true → bytes_eq received (take (min top 40) kinds) ≡ (b && bytes_eq received (take (min top 40) kinds))
+      go b e = rw e refl
 
 -- the list is made of the types alone
 pub kinds_list : {t u : List Node} → SameKinds t u → (internal : ℕ) → node_list internal t ≡ node_list internal u

@@ -1,9 +1,9 @@
 -- The node list (01, "Boards and positions"; 003, 5.14).
-use Rattle.std.specs.Prelude.{ℕ, ◌+◌, min, Bool, ◌&&◌, List, [], ◌∷◌, map, length, get_or, eqb, ltb}
+use Rattle.std.specs.Prelude.{ℕ, ◌+◌, min, Bool, ◌&&◌, List, [], ◌∷◌, map, length, get_or, eqb, ltb, Result}
 use Rattle.ground.specs.Choose.{choose}
 use Rattle.ground.specs.Below.{all, up_from}
 use Rattle.ground.specs.Bytes.{laid}
-use Rattle.refusal.specs.Refusal.{Told, refuses, gives, ruled}
+use Rattle.refusal.specs.Refusal.{Told, refuses, gives, counts, ruled}
 use Rattle.refusal.specs.declared.Refusal.{Refusal}
 use Rattle.refusal.specs.declared.Refusal.TheVariants.{NoRoom}
 use Rattle.board.specs.declared.Node.{Node}
@@ -12,8 +12,6 @@ use Rattle.board.specs.Table.{at}
 use Rattle.board.specs.Columns.{kinds_of, versions_of, typed}
 use Rattle.board.specs.Wanted.{highest_listed}
 use Rattle.nodelist.specs.Condensed.{condensed}
-use Rattle.nodelist.specs.declared.Listing.{Listing}
-use Rattle.nodelist.specs.declared.Listing.TheVariants.{Written, Refused}
 
 -- the type at a position, 0 where it is free
 abbrev pub kind_at : List Node → ℕ → ℕ
@@ -40,9 +38,8 @@ abbrev pub output : ℕ → List Node → List ℕ → List ℕ
 output internal t out = ruled (rules t out) (λ refusal. out) (laid (node_list internal t) out)
 
 -- what an answer of the writer says
-abbrev pub told : Listing → Told
-told (Written n) = gives (n ∷ [])
-told (Refused r) = refuses r
+abbrev pub told : Result ℕ Refusal → Told
+told = counts
 
 -- the list for a board of a version: condensed for a 1.0 board, else the whole (02, C-15)
 unfoldable pub list_for : ℕ → ℕ → List Node → List ℕ

@@ -10,11 +10,12 @@ ghost use Rattle.steps.specs.Start.{start_of};
 ghost use Rattle.steps.specs.Step.{step_of};
 ghost use Rattle.lent.specs.Lent.{in_place};
 ghost use Rattle.lent.specs.Numbers.{event_of, facing, faced};
-ghost use Rattle.lent.specs.Amend.{amends, listing, clearing, marking, amend_of};
+ghost use Rattle.lent.specs.Amend.{amends, listing, clearing, marking, amend_of, amended_by};
 
 use board::{Node, Table};
 use change::Edit;
 use coordinator::Coordinator;
+use lent::Amendment;
 use steps::{Event, Outcome, Stepped};
 
 // Setup: the fresh start, in place.
@@ -29,11 +30,19 @@ pub fn setup(
 ) -> Outcome
     ensures { in_place result coordinator.new nodes.new ≡ shows (start_of coordinator.old nodes.old addresses.now subnet internal mac session) }
 {
-    let n = nodes.len();
-    let r = start::begin(*coordinator, n, addresses, subnet, internal, mac, session);
-    place::amend(nodes, 0, r.clear, Edit::Cleared);
-    *coordinator = r.coordinator;
-    r.outcome
+    let count = nodes.len();
+    let begun = start::begin(
+        *coordinator,
+        count,
+        addresses,
+        subnet,
+        internal,
+        mac,
+        session,
+    );
+    place::amend(nodes, 0, begun.clear, Edit::Cleared);
+    *coordinator = begun.coordinator;
+    begun.outcome
 }
 
 // The panel's step, in place: look, decide, change. Received bytes are looked at by the event Frame alone, and the output is written by Turn, Frame and Discover alone.
@@ -46,34 +55,36 @@ pub fn step(
 ) -> Outcome
     ensures { (in_place result coordinator.new nodes.new ≡ shows (step_of coordinator.old nodes.old event received.now (length out.old))) × (out.new ≡ laid (step_of coordinator.old nodes.old event received.now (length out.old)).bytes out.old) }
 {
-    let mut kinds = [0u8; 40];
-    let mut indexes = [0u8; 40];
-    let mut versions = [0u8; 40];
-    let mut macs = [0u64; 40];
-    let seen = place::look(
-        coordinator,
-        nodes,
-        &mut kinds,
-        &mut indexes,
-        &mut versions,
-        &mut macs,
-    );
+    let (seen, columns) = place::look(coordinator, nodes);
     let node = place::record_at(nodes, seen.state.stand.board);
     let change = stepping::counted(
         nodes.len(),
         seen,
         node,
         &coordinator.kept.payload,
-        &kinds,
-        &indexes,
-        &versions,
-        &macs,
+        &columns,
         event,
         received,
         out,
     );
     place::make(coordinator, nodes, seen.state, change, received);
     change.outcome
+}
+
+// Records edited in place, and the first `all` counted anew.
+fn amended(nodes: &mut [Node], amendment: Amendment) -> u64
+    ensures { amends result nodes.new ≡ amends amendment.answer (amended_by amendment nodes.old) }
+{
+    let Amendment {
+        from,
+        to,
+        edit,
+        all,
+        answer,
+    } = amendment;
+    place::amend(nodes, from, to, edit);
+    place::number(nodes, all);
+    answer
 }
 
 // A board listed at a position, in place, and all indexes counted anew.
@@ -87,38 +98,30 @@ pub fn nadrelgos_list(
 ) -> u64
     ensures { amends result nodes.new ≡ amend_of (length nodes.old) nodes.old (listing nodes.old position kind mac session version) }
 {
-    let n = nodes.len();
-    let r = lent::list_edit(n, position, kind, mac, session, version);
-    place::amend(nodes, r.from, r.to, r.edit);
-    place::number(nodes, r.all);
-    r.answer
+    let listed = lent::list_edit(nodes.len(), position, kind, mac, session, version);
+    amended(nodes, listed)
 }
 
 // A position cleared, in place, and all indexes counted anew.
 pub fn nadrelgos_clear(nodes: &mut [Node], position: usize) -> u64
     ensures { amends result nodes.new ≡ amend_of (length nodes.old) nodes.old (clearing nodes.old position) }
 {
-    let n = nodes.len();
-    let r = lent::clear_edit(n, position);
-    place::amend(nodes, r.from, r.to, r.edit);
-    place::number(nodes, r.all);
-    r.answer
+    let cleared = lent::clear_edit(nodes.len(), position);
+    amended(nodes, cleared)
 }
 
 // The list marked as owed to the board at a position, in place. No index changes, and none is counted.
 pub fn nadrelgos_mark(nodes: &mut [Node], position: usize) -> u64
     ensures { amends result nodes.new ≡ amend_of (length nodes.old) nodes.old (marking nodes.old position) }
 {
-    let n = nodes.len();
-    let r = lent::mark_edit(n, position);
-    place::amend(nodes, r.from, r.to, r.edit);
-    r.answer
+    let marked = lent::mark_edit(nodes.len(), position);
+    amended(nodes, Amendment { all: 0, ..marked })
 }
 
-// Setup on copies, which it lends: its callers need no lent records of their own.
+// Setup on copies, which it lends: for a caller that keeps coordinator and records as values.
 pub fn lend_setup(
-    coordinator: Coordinator,
-    table: Table,
+    mut coordinator: Coordinator,
+    mut table: Table,
     addresses: &[u8],
     subnet: u8,
     internal: u8,
@@ -127,35 +130,37 @@ pub fn lend_setup(
 ) -> Stepped
     ensures { shown result ≡ shows (start_of coordinator table.nodes addresses.now subnet internal mac session) }
 {
-    let mut d = coordinator;
-    let mut ns = table.nodes;
-    let a = setup(&mut d, &mut ns, addresses, subnet, internal, mac, session);
-    let u = Table { nodes: ns };
+    let outcome = setup(
+        &mut coordinator,
+        &mut table.nodes,
+        addresses,
+        subnet,
+        internal,
+        mac,
+        session,
+    );
     Stepped {
-        coordinator: d,
-        table: u,
-        outcome: a,
+        coordinator,
+        table,
+        outcome,
     }
 }
 
 // A step on copies, which it lends.
 pub fn lend_step(
-    coordinator: Coordinator,
-    table: Table,
+    mut coordinator: Coordinator,
+    mut table: Table,
     event: Event,
     received: &[u8],
     out: &mut [u8],
 ) -> Stepped
     ensures { (shown result ≡ shows (step_of coordinator table.nodes event received.now (length out.old))) × (out.new ≡ laid (step_of coordinator table.nodes event received.now (length out.old)).bytes out.old) }
 {
-    let mut d = coordinator;
-    let mut ns = table.nodes;
-    let a = step(&mut d, &mut ns, event, received, out);
-    let u = Table { nodes: ns };
+    let outcome = step(&mut coordinator, &mut table.nodes, event, received, out);
     Stepped {
-        coordinator: d,
-        table: u,
-        outcome: a,
+        coordinator,
+        table,
+        outcome,
     }
 }
 
@@ -171,7 +176,7 @@ pub fn nadrelgos_setup(
 ) -> u64
     ensures { facing result coordinator.new nodes.new ≡ faced (start_of coordinator.old nodes.old addresses.now subnet internal mac session) }
 {
-    let o = setup(
+    let outcome = setup(
         coordinator,
         nodes,
         addresses,
@@ -180,7 +185,7 @@ pub fn nadrelgos_setup(
         mac,
         session,
     );
-    lent::pack(o)
+    lent::pack(outcome)
 }
 
 // A step for C: the event by its number, the outcome packed.
@@ -197,7 +202,6 @@ pub fn nadrelgos_step(
 ) -> u64
     ensures { (facing result coordinator.new nodes.new ≡ faced (step_of coordinator.old nodes.old (event_of number kind mac session version) received.now (length out.old))) × (out.new ≡ laid (step_of coordinator.old nodes.old (event_of number kind mac session version) received.now (length out.old)).bytes out.old) }
 {
-    let e = lent::event_of(number, kind, mac, session, version);
-    let o = step(coordinator, nodes, e, received, out);
-    lent::pack(o)
+    let event = lent::event_of(number, kind, mac, session, version);
+    lent::pack(step(coordinator, nodes, event, received, out))
 }

@@ -1,113 +1,92 @@
 // The lines of shared data, played on the two images.
-use shared::{Found, Storing};
+use crate::answer;
+use script::Line;
+use shared::Found;
+use std::alloc::{AllocError, Global};
 use std::io;
 use std::io::Write;
 
-// What such a line asks for. The bytes of an image stand in the line, from a place on, and are read straight into it when the line is played;
-// those of a record stand in the bytes beside it.
+// The longest image that can be tried, longer than an image is.
+const LONGEST_IMAGE: usize = 16384;
+
+// What such a line asks for. The bytes of an image are read when the line is played; those of a record stand in the bytes that were lent to the
+// reader.
 #[derive(Clone, Copy)]
-pub(crate) enum Asked {
-    SetNetwork { at: usize },
-    SetFactory { at: usize },
-    Store { sector: u8 },
+pub(crate) enum Asked<'a> {
+    SetNetwork(Line<'a>),
+    SetFactory(Line<'a>),
+    Store { sector: u8, record: &'a [u8] },
     Fetch { sector: u8 },
     Answer { room: usize, sector: u8 },
 }
 
-// How many bytes each image has.
-#[derive(Clone, Copy)]
-pub(crate) struct Sizes {
-    pub(crate) network: usize,
-    pub(crate) factory: usize,
+// The network's copy of the shared data, and the factory image.
+#[derive(Drop)]
+pub(crate) struct Images {
+    network: Vec<u8>,
+    factory: Vec<u8>,
 }
 
-// Room for the longest image that can be tried, more than an image has.
-pub(crate) fn blank() -> [u8; 16384] {
-    [0u8; 16384]
+// image, answered: it is these bytes from now on, and stays as it was where the line is bad.
+fn set<W: Write>(image: &mut Vec<u8>, to: &mut W, line: Line<'_>, number: u64) -> io::Result<()> {
+    let mut bytes = vec![in *image.allocator(); 0; LONGEST_IMAGE]?;
+    let Some(size) = script::bytes_from(line.text, line.at, &mut bytes) else {
+        return writeln!(to, "bad line {number}");
+    };
+    bytes.truncate(size);
+    *image = bytes;
+    writeln!(to, "image {size}")
 }
 
-// image, answered: how many bytes the image has then, as many as before where the line is bad.
-fn image<W: Write>(
-    to: &mut W,
-    line: &[u8],
-    at: usize,
-    number: u64,
-    bytes: &mut [u8],
-    before: usize,
-) -> io::Result<usize> {
-    let read = script::bytes_from(line, at, bytes);
-    if read.ok {
-        crate::answer::image(to, read.value)?;
-        Ok(read.value)
-    } else {
-        crate::answer::bad(to, number)?;
-        Ok(before)
+impl Images {
+    pub(crate) fn blank(alloc: Global) -> Result<Images, AllocError> {
+        Ok(Images {
+            network: vec![in alloc; 0; shared::IMAGE]?,
+            factory: vec![in alloc; 0; shared::IMAGE]?,
+        })
     }
-}
 
-// store, answered.
-fn store<W: Write>(to: &mut W, network: &mut [u8], sector: u8, bytes: &[u8]) -> io::Result<()> {
-    match shared::store(network, sector, bytes) {
-        Storing::Stored(slot) => crate::answer::stored(to, slot),
-        Storing::Refused(refusal) => crate::answer::refused(to, refusal),
-    }
-}
-
-// fetch, answered. Both images are lent for one lifetime, as `record` has them.
-fn fetch<'a, W: Write>(
-    to: &mut W,
-    network: &'a [u8],
-    factory: &'a [u8],
-    sector: u8,
-) -> io::Result<()> {
-    match shared::holder(network, factory, sector) {
-        Found::Network(_) => {
-            crate::answer::fetched(to, b"network", shared::record(network, factory, sector))
-        }
-        Found::Factory(_) => {
-            crate::answer::fetched(to, b"factory", shared::record(network, factory, sector))
-        }
-        Found::Nobody => crate::answer::none(to),
-        Found::Refused(refusal) => crate::answer::refused(to, refusal),
-    }
-}
-
-// write-answer, answered.
-fn write_answer<W: Write>(
-    to: &mut W,
-    network: &[u8],
-    factory: &[u8],
-    sector: u8,
-    out: &mut [u8],
-) -> io::Result<()> {
-    let writing = shared::write_answer(network, factory, sector, out);
-    crate::answer::written(to, writing, out)
-}
-
-// Plays one of these lines: what it stores are the bytes beside it.
-pub(crate) fn play<W: Write>(
-    to: &mut W,
-    asked: Asked,
-    line: &[u8],
-    number: u64,
-    bytes: &[u8],
-    network: &mut [u8],
-    factory: &mut [u8],
-    sizes: Sizes,
-) -> io::Result<Sizes> {
-    let n = script::within(sizes.network, network);
-    let m = script::within(sizes.factory, factory);
-    let mut left = sizes;
-    match asked {
-        Asked::SetNetwork { at } => left.network = image(to, line, at, number, network, n)?,
-        Asked::SetFactory { at } => left.factory = image(to, line, at, number, factory, m)?,
-        Asked::Store { sector } => store(to, &mut network[..n], sector, bytes)?,
-        Asked::Fetch { sector } => fetch(to, &network[..n], &factory[..m], sector)?,
-        Asked::Answer { room, sector } => {
-            let mut out = [0u8; 1024];
-            let k = script::within(room, &out);
-            write_answer(to, &network[..n], &factory[..m], sector, &mut out[..k])?
+    // store, answered.
+    fn store<W: Write>(&mut self, to: &mut W, sector: u8, record: &[u8]) -> io::Result<()> {
+        match shared::store(&mut self.network, sector, record) {
+            Ok(slot) => writeln!(to, "stored {slot}"),
+            Err(refusal) => answer::refused(to, refusal),
         }
     }
-    Ok(left)
+
+    // fetch, answered.
+    fn fetch<W: Write>(&self, to: &mut W, sector: u8) -> io::Result<()> {
+        let record = shared::record(&self.network, &self.factory, sector);
+        match shared::holder(&self.network, &self.factory, sector) {
+            Ok(Some(Found::Network(_))) => answer::fetched(to, "network", record),
+            Ok(Some(Found::Factory(_))) => answer::fetched(to, "factory", record),
+            Ok(None) => writeln!(to, "none"),
+            Err(refusal) => answer::refused(to, refusal),
+        }
+    }
+
+    // write-answer, answered.
+    fn write_answer<W: Write>(&self, to: &mut W, room: usize, sector: u8) -> io::Result<()> {
+        let mut out = [0; 1024];
+        let n = script::within(room, &out);
+        let out = &mut out[..n];
+        let writing = shared::write_answer(&self.network, &self.factory, sector, out);
+        answer::written(to, writing, out)
+    }
+
+    // Plays one of these lines.
+    pub(crate) fn play<W: Write>(
+        &mut self,
+        to: &mut W,
+        asked: Asked<'_>,
+        number: u64,
+    ) -> io::Result<()> {
+        match asked {
+            Asked::SetNetwork(line) => set(&mut self.network, to, line, number),
+            Asked::SetFactory(line) => set(&mut self.factory, to, line, number),
+            Asked::Store { sector, record } => self.store(to, sector, record),
+            Asked::Fetch { sector } => self.fetch(to, sector),
+            Asked::Answer { room, sector } => self.write_answer(to, room, sector),
+        }
+    }
 }

@@ -7,58 +7,41 @@ mod images;
 mod levels;
 mod order;
 
-use display::{Diagnostics, Display};
-use encapsulation::Inside;
-use frame::Writing;
-use images::Sizes;
+use images::Images;
 use order::{Order, Written};
+use refusal::Refusal;
 use std::io;
 use std::io::{BufWriter, Write};
 
 // read-display, answered.
 fn read_display<W: Write>(to: &mut W, payload: &[u8]) -> io::Result<()> {
     match display::read_display(payload) {
-        Display::Message { kind, length: _ } => {
-            answer::display(to, kind, display::display_text(payload))
-        }
-        Display::Refused(refusal) => answer::refused(to, refusal),
+        Ok(message) => answer::display(to, message.kind, display::display_text(payload)),
+        Err(refusal) => answer::refused(to, refusal),
     }
 }
 
 // read-diagnostics, answered.
 fn read_diagnostics<W: Write>(to: &mut W, payload: &[u8]) -> io::Result<()> {
     match display::read_diagnostics(payload) {
-        Diagnostics::Fault {
-            kind,
-            major,
-            minor,
-            length: _,
-        } => answer::diagnostics(to, kind, major, minor, display::diagnostics_text(payload)),
-        Diagnostics::Refused(refusal) => answer::refused(to, refusal),
+        Ok(fault) => answer::diagnostics(to, fault, display::diagnostics_text(payload)),
+        Err(refusal) => answer::refused(to, refusal),
     }
 }
 
 // unwrap, answered.
 fn unwrap<W: Write>(to: &mut W, subnet: u8, frame: &[u8]) -> io::Result<()> {
-    let found = encapsulation::unwrap(subnet, frame);
-    let inside = found.inside;
-    let levels = found.levels;
-    match inside {
-        Inside::Plain {
-            depth,
-            message,
-            packet,
-            length: _,
-        } => {
-            answer::plain(to, depth, levels, message, packet)?;
-            answer::payload(to, encapsulation::inner_payload(subnet, frame))
+    match encapsulation::unwrap(subnet, frame) {
+        Ok(inside) => {
+            let payload = encapsulation::inner_payload(subnet, frame);
+            answer::plain(to, inside, payload)
         }
-        Inside::Refused(refusal) => answer::refused(to, refusal),
+        Err(refusal) => answer::refused(to, refusal),
     }
 }
 
 // Writes into out what a line wants written of these bytes.
-fn writing_of(what: Written, line: &[u8], bytes: &[u8], out: &mut [u8]) -> Writing {
+fn writing_of(what: Written, bytes: &[u8], out: &mut [u8]) -> Result<usize, Refusal> {
     match what {
         Written::Display { kind } => display::write_display(kind, bytes, out),
         Written::Diagnostics { kind, major, minor } => {
@@ -66,103 +49,53 @@ fn writing_of(what: Written, line: &[u8], bytes: &[u8], out: &mut [u8]) -> Writi
         }
         Written::Wrap {
             header,
-            depth,
             levels,
-        } => encapsulation::wrap(header, levels::levels_at(line, levels), depth, bytes, out),
+            depth,
+        } => encapsulation::wrap(header, levels, depth, bytes, out),
     }
 }
 
-// The same, answered.
-fn write<W: Write>(
-    to: &mut W,
-    what: Written,
-    line: &[u8],
-    bytes: &[u8],
-    out: &mut [u8],
-) -> io::Result<()> {
-    let writing = writing_of(what, line, bytes, out);
+// The same with this much room, answered.
+fn write<W: Write>(to: &mut W, room: usize, what: Written, bytes: &[u8]) -> io::Result<()> {
+    let mut out = [0; 1024];
+    let n = script::within(room, &out);
+    let out = &mut out[..n];
+    let writing = writing_of(what, bytes, out);
     answer::written(to, writing, out)
 }
 
 // Plays one line and answers it.
 fn play_line<W: Write>(
     to: &mut W,
-    line: &[u8],
+    images: &mut Images,
     number: u64,
-    network: &mut [u8],
-    factory: &mut [u8],
-    sizes: Sizes,
-) -> io::Result<Sizes> {
-    let mut bytes = [0u8; 1024];
-    let order = order::read_line(line, &mut bytes);
-    match order {
-        Order::Pass => {}
-        Order::ReadDisplay { count } => {
-            let n = script::within(count, &bytes);
-            read_display(to, &bytes[..n])?;
-        }
-        Order::ReadDiagnostics { count } => {
-            let n = script::within(count, &bytes);
-            read_diagnostics(to, &bytes[..n])?;
-        }
-        Order::Unwrap { subnet, count } => {
-            let n = script::within(count, &bytes);
-            unwrap(to, subnet, &bytes[..n])?;
-        }
-        Order::Write { room, count, what } => {
-            let n = script::within(count, &bytes);
-            let mut out = [0u8; 1024];
-            let m = script::within(room, &out);
-            write(to, what, line, &bytes[..n], &mut out[..m])?;
-        }
-        Order::Shared { asked, count } => {
-            let n = script::within(count, &bytes);
-            return images::play(
-                to,
-                asked,
-                line,
-                number,
-                &bytes[..n],
-                network,
-                factory,
-                sizes,
-            );
-        }
-        Order::Bad => answer::bad(to, number)?,
+    line: &[u8],
+) -> io::Result<()> {
+    let mut bytes = [0; 1024];
+    match order::read_line(line, &mut bytes) {
+        Some(Order::Pass) => Ok(()),
+        Some(Order::ReadDisplay { payload }) => read_display(to, payload),
+        Some(Order::ReadDiagnostics { payload }) => read_diagnostics(to, payload),
+        Some(Order::Unwrap { subnet, frame }) => unwrap(to, subnet, frame),
+        Some(Order::Write { room, what, bytes }) => write(to, room, what, bytes),
+        Some(Order::Shared(asked)) => images.play(to, asked, number),
+        None => writeln!(to, "bad line {number}"),
     }
-    Ok(sizes)
 }
 
-// Plays the lines from first to last, on images that begin blank.
-fn play<W: Write>(to: &mut W, lines: &[u8]) -> io::Result<()> {
-    let mut network = images::blank();
-    let mut factory = images::blank();
-    let mut sizes = Sizes {
-        network: shared::IMAGE,
-        factory: shared::IMAGE,
-    };
-    let mut number: u64 = 0;
-    let mut at: usize = 0;
-    while at < lines.len() {
-        let rest = &lines[at..];
-        let n = script::before(rest, b'\n');
-        number += 1;
-        sizes = play_line(to, &rest[..n], number, &mut network, &mut factory, sizes)?;
-        let end = at + n;
-        at = end + 1;
+// Plays the lines from first to last.
+fn play<W: Write>(to: &mut W, mut images: Images, lines: &[u8]) -> io::Result<()> {
+    // The loop is each program's own: shared, it would take the program's step as a closure, and be no plainer than these lines.
+    for (number, line) in (1..).zip(lines.split(|b| *b == b'\n')) {
+        play_line(to, &mut images, number, line)?;
     }
     Ok(())
 }
 
-// Room for the longest input.
-fn blank_input() -> [u8; 1048576] {
-    [0u8; 1048576]
-}
-
 fn main(rt: HostRuntime) -> io::Result<()> {
-    let mut input = blank_input();
+    let mut input = vec![in rt.alloc(); 0; script::LONGEST]?;
     let n = console::read_full(&mut rt.reader(), &mut input)?;
     let mut to = BufWriter::new(rt.alloc(), io::writer(&rt))?;
-    play(&mut to, &input[..n])?;
+    play(&mut to, Images::blank(rt.alloc())?, &input[..n])?;
     to.flush()
 }

@@ -1,12 +1,16 @@
 -- The indexes of records, counted one after another.
-use Prim.Native.Nat.{ℕ, zero, suc, ◌+◌, ◌-◌, ◌<◌, min}
+use Prim.Native.Nat.{ℕ, zero, suc, ◌+◌, ◌<◌, min}
 use native.Mathlib.Omega.{arith}
+use native.Mathlib.Numerals.{add-one}
 use native.Mathlib.Decide.{dec_lt}
 use mathlib.Core.Path.{◌≡◌, refl, sym, ap, ◌∙◌}
 use mathlib.Core.Bool.{Bool, true, false}
-use mathlib.Core.List.{List, append-nil}
-use lib.ListN.{length, get_or, set, length-map}
-use lib.Seq.{take_all, drop-length}
+use mathlib.Core.List.{List, [], ◌∷◌, append-nil}
+use lib.ListN.{length, get_or, set, take, length-map}
+use lib.Seq.{take_all, take-suc, drop-length}
+use Rattle.std.specs.List.{fold}
+use Rattle.std.proofs.lemmas.List.{get_or_past}
+use Rattle.std.proofs.lemmas.List.Sums.{fold-append}
 use Rattle.ground.specs.Choose.{choose}
 use Rattle.ground.specs.Below.{one, count}
 use Rattle.ground.proofs.Loops.{count_more}
@@ -18,34 +22,33 @@ use Rattle.board.specs.Table.{at}
 use Rattle.board.specs.Wanted.{wants, wanted_at, of_kind_below, index_of}
 use Rattle.board.specs.Index.{indexed, numbered}
 use Rattle.board.specs.Columns.{kind_of, kinds_of}
-use Rattle.board.proofs.Positions.{at_next, at_past, at_alike}
+use Rattle.board.proofs.Positions.{at_next, at_alike}
 use Rattle.board.proofs.SameKinds.{kinds_index}
-use Rattle.board.proofs.Columns.{same_kinds}
+use Rattle.board.proofs.Column.{same_kinds}
 use Rattle.board.proofs.Numbered.{numbered_length, numbered_kinds, at_numbered}
 use Rattle.place.specs.Place.{numbered_first}
 
+-- one record counted: one more if it is of the type, and no more than 255
+abbrev pub counts : ℕ → ℕ → Node → ℕ
+counts kind n node = min (n + one (wants (Kind kind) node)) 255
+
 -- how many before an index are of a type: none before the first, and one more if the next is
 module _ (t : List Node) (kind : ℕ) where
-  pub kind_none : 0 ≡ min (of_kind_below t kind (0 + 1)) 255
+  kind_none : 0 ≡ min (of_kind_below t kind (0 + 1)) 255
   unfolding count at
   kind_none = refl
 
-  pub kind_more : (j n r : ℕ) → n ≡ min (of_kind_below t kind (j + 1)) 255 → r ≡ min (n + one (wants (Kind kind) (get_or t j none))) 255 → r ≡ min (of_kind_below t kind (j + 1 + 1)) 255
+  kind_more : (j n r : ℕ) → n ≡ min (of_kind_below t kind (j + 1)) 255 → r ≡ counts kind n (get_or t j none) → r ≡ min (of_kind_below t kind (j + 1 + 1)) 255
   kind_more j n r en er = omega (arith, en, er, count_more (wanted_at (Kind kind) t) (j + 1), ap (λ (y : Node). one (wants (Kind kind) y)) (at_next t j))
 
-  -- past the records there is nobody
-  past : (k : ℕ) → of_kind_below t kind (length t + 1 + k) ≡ of_kind_below t kind (length t + 1)
-  unfolding count
-  past zero = ap (of_kind_below t kind) (let n : length t + 1 + 0 ≡ length t + 1 = omega arith in n)
-  past (suc k) = ap (of_kind_below t kind) (let n : length t + 1 + suc k ≡ suc (length t + 1 + k) = omega arith in n)
-      ∙ let z : of_kind_below t kind (suc (length t + 1 + k)) ≡ of_kind_below t kind (length t + 1) = omega (arith, past k, ap (λ (y : Node). one (wants (Kind kind) y)) (at_past t (length t + 1 + k) (length t) refl (omega arith))) in z
-
-  pub kind_all : (i : ℕ) → of_kind_below t kind (min (length t) i + 1) ≡ of_kind_below t kind (i + 1)
-  kind_all i = go (dec_lt (length t) i)
+  -- so many do the first records add up to, and past the records there is nobody
+  pub kind_counted : (i : ℕ) → fold (counts kind) 0 (take i t) ≡ min (of_kind_below t kind (i + 1)) 255
+  kind_counted zero = kind_none
+  kind_counted (suc i) = rw (add-one i) at (kind_more i (fold (counts kind) 0 (take i t)) _ (kind_counted i) (next (kind_counted i) (dec_lt i (length t))))
     where
-      go : Dec (length t < i) → of_kind_below t kind (min (length t) i + 1) ≡ of_kind_below t kind (i + 1)
-      go (yes l) = ap (of_kind_below t kind) (let n : min (length t) i + 1 ≡ length t + 1 = omega (arith, l) in n) ∙ sym (past (i - length t)) ∙ ap (of_kind_below t kind) (let n : length t + 1 + (i - length t) ≡ i + 1 = omega (arith, l) in n)
-      go (no l) = ap (of_kind_below t kind) (let n : min (length t) i + 1 ≡ i + 1 = omega (arith, l) in n)
+      next : fold (counts kind) 0 (take i t) ≡ min (of_kind_below t kind (i + 1)) 255 → Dec (i < length t) → fold (counts kind) 0 (take (suc i) t) ≡ counts kind (fold (counts kind) 0 (take i t)) (get_or t i none)
+      next e (yes l) = rw (take-suc t i none l) (fold-append (counts kind) 0 (take i t) (get_or t i none ∷ []))
+      next e (no l) = ap (fold (counts kind) 0) (take_all (suc i) t (omega arith) ∙ sym (take_all i t (omega arith))) ∙ (let z : fold (counts kind) 0 (take i t) ≡ counts kind (fold (counts kind) 0 (take i t)) (get_or t i none) = omega (arith, e, ap (λ (y : Node). one (wants (Kind kind) y)) (get_or_past t i none (omega arith))) in z)
 
 -- numbering changes no type, whoever is numbered
 first_kinds : (t : List Node) (j : ℕ) → kinds_of (numbered_first t j) ≡ kinds_of t
@@ -76,6 +79,9 @@ pub none_numbered : (t : List Node) → numbered_first t 0 ≡ t
 unfolding numbered_first
 none_numbered t = refl
 
+pub nothing_numbered : (t : List Node) → numbered_first t (min (length t) 0) ≡ t
+nothing_numbered t = ap (numbered_first t) (let k : min (length t) 0 ≡ 0 = omega arith in k) ∙ none_numbered t
+
 -- and all
 pub all_numbered : (t : List Node) → numbered_first t (length t) ≡ numbered t
 unfolding numbered_first
@@ -85,4 +91,4 @@ all_numbered t = rw (take_all (length t) (numbered t) (omega (arith, numbered_le
 pub numbered_if : (b : Bool) (t : List Node) (n to : ℕ) → length t ≡ n → to ≡ choose b n 0 → numbered_first t (min (length t) to) ≡ choose b (numbered t) t
 unfolding choose
 numbered_if true t n to l e = ap (numbered_first t) (let k : min (length t) to ≡ length t = omega (arith, l, e) in k) ∙ all_numbered t
-numbered_if false t n to l e = ap (numbered_first t) (let k : min (length t) to ≡ 0 = omega (arith, e) in k) ∙ none_numbered t
+numbered_if false t n to l e = ap (λ (j : ℕ). numbered_first t (min (length t) j)) e ∙ nothing_numbered t

@@ -2,7 +2,6 @@
 -- For functions that are lent a record each theorem is over the generated clauses themselves: it is refused once the source says anything else.
 use Prim.Native.Nat.{ℕ, min}
 use mathlib.Core.Path.{◌≡◌, sym, ◌∙◌}
-use mathlib.Core.Bool.{true}
 use mathlib.Core.List.{List}
 use lib.ListN.{length}
 use seplogic.Ra.Ura.{Ura}
@@ -14,13 +13,13 @@ use types.Logic.{Logic}
 use contract.Monad.{Fun, fact, fact_i, fact_use}
 use denote.Ref.{Bor, MutBor}
 use Rattle.board.specs.declared.Node.{Node}
+use Rattle.board.specs.declared.Columns.{Columns}
 use Rattle.board.specs.Table.{at}
 use Rattle.coordinator.specs.declared.State.{State}
 use Rattle.coordinator.specs.declared.Coordinator.{Coordinator}
 use Rattle.coordinator.specs.State.{state_of}
 use Rattle.look.specs.declared.Seen.{Seen}
-use Rattle.look.specs.Digest.{digested, dg, digest_all}
-use Rattle.look.proofs.Digests.{same_digested}
+use Rattle.look.specs.Digest.{zeroed, digest_all, noted_in}
 use Rattle.change.specs.declared.Edit.{Edit}
 use Rattle.change.specs.declared.Change.{Change}
 use Rattle.change.specs.Change.{changed_from, amended}
@@ -47,18 +46,15 @@ abbrev Amends : Type 0
 Amends = MutBor (List Node) × (ℕ × (ℕ × (Edit × Unit {0})))
 
 abbrev Looks : Type 0
-Looks = Bor Coordinator × (Bor (List Node) × (MutBor (List ℕ) × (MutBor (List ℕ) × (MutBor (List ℕ) × (MutBor (List ℕ) × Unit {0})))))
+Looks = Bor Coordinator × (Bor (List Node) × Unit {0})
 
--- what looking says of its answer and of the columns at exit
-abbrev SaysSeen : Looks → Seen → Looks → Type 0
-SaysSeen a r s =
-    (r.setup ≡ a.0.now.setup) ×
-    ((r.state ≡ state_of a.0.now) ×
-    (digested (dg r.ok r.top r.owed) s.1.1.0.now s.1.1.1.0.now s.1.1.1.1.0.now s.1.1.1.1.1.0.now ≡ digest_all a.0.now.setup.k a.1.0.now (digested (dg true 0 0) a.1.1.0.now a.1.1.1.0.now a.1.1.1.1.0.now a.1.1.1.1.1.0.now)))
+-- what looking says of its answer
+abbrev SaysSeen : Looks → Seen × Columns → Type 0
+SaysSeen a r = (r.0.setup ≡ a.0.now.setup) × ((r.0.state ≡ state_of a.0.now) × (noted_in r.0 r.1 ≡ digest_all a.0.now.setup.k a.1.0.now zeroed))
 
 -- what was seen is one where its parts are
-same_seen : (r q : Seen) → r.setup ≡ q.setup → r.state ≡ q.state → dg r.ok r.top r.owed ≡ dg q.ok q.top q.owed → r ≡ q
-same_seen r q e f g i = record { setup = e i; state = f i; ok = (g i).ok; top = (g i).top; owed = (g i).owed }
+same_seen : (r q : Seen × Columns) → r.0.setup ≡ q.0.setup → r.0.state ≡ q.0.state → noted_in r.0 r.1 ≡ noted_in q.0 q.1 → r ≡ q
+same_seen r q e f g i = (record { setup = e i; state = f i; ok = (g i).ok; top = (g i).top; owed = (g i).owed }, (g i).columns)
 
 abbrev Makes : Type 0
 Makes = MutBor Coordinator × (MutBor (List Node) × (State × (Change × (Bor (List ℕ) × Unit {0}))))
@@ -85,13 +81,9 @@ module _ {M : Type 1} {𝓤 : Ura M} (𝓛 : Logic 𝓤) (at_mem : Memory → SP
   unique_number κs a r q s t =
       two_facts 𝓤 (s.0.now ≡ numbered_first a.0.now (min (length a.0.now) a.1.0)) (t.0.now ≡ numbered_first a.0.now (min (length a.0.now) a.1.0)) _ (λ p p'. p ∙ sym p')
 
-  pub unique_look : (κs : Lft × (Lft × (Lft × (Lft × (Lft × (Lft × Unit {0})))))) (a : Looks) (r q : Seen) (s t : Looks)
-      → ent 𝓤 (sep 𝓤 ((look.clauses 𝓛 at_mem run κs a).ensures tt r s) ((look.clauses 𝓛 at_mem run κs a).ensures tt q t))
-      (fact 𝓤 ((r ≡ q) × ((s.1.1.0.now ≡ t.1.1.0.now) × ((s.1.1.1.0.now ≡ t.1.1.1.0.now) × ((s.1.1.1.1.0.now ≡ t.1.1.1.1.0.now) × (s.1.1.1.1.1.0.now ≡ t.1.1.1.1.1.0.now))))))
-  unique_look κs a r q s t =
-      two_facts 𝓤 (SaysSeen a r s) (SaysSeen a q t) _ (λ p p'.
-      let d = same_digested (p.1.1 ∙ sym p'.1.1) in
-      (same_seen r q (p.0 ∙ sym p'.0) (p.1.0 ∙ sym p'.1.0) d.0, d.1))
+  pub unique_look : (κs : Lft × (Lft × Unit {0})) (a : Looks) (r q : Seen × Columns) (s t : Looks)
+      → ent 𝓤 (sep 𝓤 ((look.clauses 𝓛 at_mem run κs a).ensures tt r s) ((look.clauses 𝓛 at_mem run κs a).ensures tt q t)) (fact 𝓤 (r ≡ q))
+  unique_look κs a r q s t = two_facts 𝓤 (SaysSeen a r) (SaysSeen a q) _ (λ p p'. same_seen r q (p.0 ∙ sym p'.0) (p.1.0 ∙ sym p'.1.0) (p.1.1 ∙ sym p'.1.1))
 
   pub unique_make : (κs : Lft × (Lft × (Lft × Unit {0}))) (a : Makes) (r q : Unit {0}) (s t : Makes)
       → ent 𝓤 (sep 𝓤 ((make.clauses 𝓛 at_mem run κs a).ensures tt r s) ((make.clauses 𝓛 at_mem run κs a).ensures tt q t)) (fact 𝓤 ((s.0.now ≡ t.0.now) × (s.1.0.now ≡ t.1.0.now)))

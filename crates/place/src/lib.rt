@@ -1,129 +1,76 @@
 // A lent coordinator and lent records where they stand: what is seen of them, and a change made of them.
 #![tactic(auto)]
 
-ghost use Rattle.std.specs.Prelude.{◌≡◌, true, ◌+◌, ◌-◌, min, length};
+ghost use Rattle.std.specs.Prelude.{◌≡◌, ◌+◌, ◌-◌, min, length};
 ghost use Rattle.ground.specs.Choose.{choose};
 ghost use Rattle.board.specs.Table.{at};
 ghost use Rattle.board.specs.Wanted.{of_kind_below};
 ghost use Rattle.coordinator.specs.State.{state_of, composed};
-ghost use Rattle.look.specs.Digest.{digested, dg, digest_all};
+ghost use Rattle.look.specs.Digest.{zeroed, digest_all, noted_in};
 ghost use Rattle.change.specs.Change.{kept_bytes, keepable, changed_from, amended};
 ghost use Rattle.place.specs.Place.{place_of, edited_between, numbered_first};
 
-use board::Node;
+use board::{Columns, Node};
 use change::{Change, Edit};
-use coordinator::{Coordinator, Head, State};
+use coordinator::{Coordinator, State};
 use look::{Digest, Seen};
 
-// Lent records read where they stand, at most forty of them: each is noted, and those that are listed go into the columns.
-fn digest(
-    k: usize,
-    nodes: &[Node],
-    kinds: &mut [u8; 40],
-    indexes: &mut [u8; 40],
-    versions: &mut [u8; 40],
-    macs: &mut [u64; 40],
-) -> Digest
-    ensures { digested result kinds.new indexes.new versions.new macs.new ≡ digest_all k nodes.now (digested (dg true 0 0) kinds.old indexes.old versions.old macs.old) }
+// Lent records read where they stand, at most forty of them: each is noted.
+#[tactic(auto, using(look::proofs::Digests::digest_none))]
+fn digest(k: usize, nodes: &[Node]) -> Digest
+    ensures { result ≡ digest_all k nodes.now zeroed }
 {
-    let m = ground::least(nodes.len(), 40);
-    let mut d = Digest {
-        ok: true,
-        top: 0,
-        owed: 0,
-    };
-    let mut i = 0;
-    while i < m {
-        d = look::note(d, k, i, nodes[i], kinds, indexes, versions, macs);
-        i = i + 1;
+    let mut digest = Digest::new();
+    let first = &nodes[..nodes.len().min(40)];
+    for (i, node) in first.iter().enumerate() {
+        digest.note(k, i, *node);
     }
-    d
-}
-
-// The index of a position among n records, or n where there is none.
-fn index_among(position: usize, n: usize) -> usize
-    ensures { result ≡ place_of position n }
-{
-    if 0 < position {
-        if position <= n {
-            return position - 1;
-        }
-        return n;
-    }
-    n
+    digest
 }
 
 // The record at a position of lent records; the blank one where there is none.
+#[tactic(auto, unfolding(board::specs::Table::at))]
 pub fn record_at(nodes: &[Node], position: usize) -> Node
     ensures { result ≡ at nodes.now position }
 {
-    let n = nodes.len();
-    let i = index_among(position, n);
-    if i < n {
-        return nodes[i];
-    }
-    board::blank_node()
+    position
+        .checked_sub(1)
+        .and_then(|i| nodes.get(i))
+        .copied()
+        .unwrap_or(board::blank_node())
 }
 
 // Lent records edited where they stand, from an index up to another.
+#[tactic(auto, using(crate::proofs::Edits::edited_none, crate::proofs::Edits::edited_more))]
 pub fn amend(nodes: &mut [Node], from: usize, to: usize, edit: Edit)
     ensures { nodes.new ≡ edited_between nodes.old from to edit }
 {
-    let m = ground::least(nodes.len(), to);
-    let mut i = from;
-    while i < m {
+    // By index: what a loop over `iter_mut().take(to).skip(from)` writes is not known after it, since that is an adapter.
+    for i in from..to.min(nodes.len()) {
         nodes[i] = change::edited(edit, nodes[i]);
-        i = i + 1;
     }
 }
 
-// How many of the first i records are of a type; 255 at most.
+// How many of the first i records are of a type; 255 at most. Over records as they are lent: board counts over a column (`kind_below`), and setup
+// all types in one pass (`tally_one`).
 fn kind_before(nodes: &[Node], kind: u8, i: usize) -> u8
     ensures { result ≡ min (of_kind_below nodes.now kind (i + 1)) 255 }
 {
-    let m = ground::least(nodes.len(), i);
-    let mut n = 0u8;
-    let mut j = 0;
-    while j < m {
-        n = board::counted(n, kind, nodes[j]);
-        j = j + 1;
-    }
-    n
+    nodes
+        .iter()
+        .take(i)
+        .fold(0, |count, node| board::counted(count, kind, *node))
 }
 
 // The first records up to `to`, each with its board's index counted: how many before it are of its type.
+#[tactic(auto, using(crate::proofs::Numbers::none_numbered, crate::proofs::Numbers::numbered_more))]
 pub fn number(nodes: &mut [Node], to: usize)
     ensures { nodes.new ≡ numbered_first nodes.old (min (length nodes.old) to) }
 {
-    let m = ground::least(nodes.len(), to);
-    let mut i = 0;
-    while i < m {
-        let node = nodes[i];
-        let index = kind_before(nodes, node.kind, i);
-        nodes[i] = board::indexed(node, index);
-        i = i + 1;
-    }
-}
-
-// The state of a lent coordinator, read where it stands: its payload is not copied.
-fn state_of(coordinator: &Coordinator) -> State
-    ensures { result ≡ state_of coordinator.now }
-{
-    let head = Head {
-        message: coordinator.kept.message,
-        packet: coordinator.kept.packet,
-        kind: coordinator.kept.kind,
-        method: coordinator.kept.method,
-        parameter: coordinator.kept.parameter,
-        length: coordinator.kept.length,
-    };
-    State {
-        last: coordinator.last,
-        held: coordinator.held,
-        searched: coordinator.searched,
-        stand: coordinator.stand,
-        head: head,
-        found: coordinator.found,
+    // By index: each turn counts in all the records before the one that it writes, so that the slice cannot be lent to an iterator.
+    for i in 0..nodes.len().min(to) {
+        let index = kind_before(nodes, nodes[i].kind, i);
+        nodes[i] = board::indexed(nodes[i], index);
     }
 }
 
@@ -135,6 +82,7 @@ fn put_state(coordinator: &mut Coordinator, state: State)
     coordinator.held = state.held;
     coordinator.searched = state.searched;
     coordinator.stand = state.stand;
+    // The fields of a head stand flat in `Kept`, which C reads (`#[repr(C)]`), so that each is stored by its name.
     coordinator.kept.message = state.head.message;
     coordinator.kept.packet = state.head.packet;
     coordinator.kept.kind = state.head.kind;
@@ -144,54 +92,32 @@ fn put_state(coordinator: &mut Coordinator, state: State)
     coordinator.found = state.found;
 }
 
-// What is seen of a lent coordinator and of lent records: the setup, the state, and what is noted of the records.
-pub fn look(
-    coordinator: &Coordinator,
-    nodes: &[Node],
-    kinds: &mut [u8; 40],
-    indexes: &mut [u8; 40],
-    versions: &mut [u8; 40],
-    macs: &mut [u64; 40],
-) -> Seen
-    ensures { (result.setup ≡ coordinator.now.setup) × ((result.state ≡ state_of coordinator.now) × (digested (dg result.ok result.top result.owed) kinds.new indexes.new versions.new macs.new ≡ digest_all coordinator.now.setup.k nodes.now (digested (dg true 0 0) kinds.old indexes.old versions.old macs.old))) }
+// What is seen of a lent coordinator and of lent records: the setup, the state, and what is noted of the records, with the columns beside it.
+pub fn look(coordinator: &Coordinator, nodes: &[Node]) -> (Seen, Columns)
+    ensures { (result.0.setup ≡ coordinator.now.setup) × ((result.0.state ≡ state_of coordinator.now) × (noted_in result.0 result.1 ≡ digest_all coordinator.now.setup.k nodes.now zeroed)) }
 {
     let setup = coordinator.setup;
-    let state = state_of(coordinator);
-    let d = digest(setup.k, nodes, kinds, indexes, versions, macs);
-    Seen {
-        setup: setup,
-        state: state,
-        ok: d.ok,
-        top: d.top,
-        owed: d.owed,
-    }
-}
-
-// The payload received is kept in a lent coordinator, where it stands, if it is to be kept.
-fn keep(coordinator: &mut Coordinator, keep: bool, received: &[u8])
-    ensures { coordinator.new ≡ composed coordinator.old.setup (state_of coordinator.old) (choose keep (kept_bytes (keepable received.now)) coordinator.old.kept.payload) }
-{
-    change::keep(keep, received, &mut coordinator.kept.payload);
+    let Digest {
+        ok,
+        top,
+        owed,
+        columns,
+    } = digest(setup.k, nodes);
+    let seen = Seen {
+        setup,
+        state: State::from(coordinator),
+        ok,
+        top,
+        owed,
+    };
+    (seen, columns)
 }
 
 // Where the record of a position stands among the records: the number below it; 0 for position 0, which names nobody.
 pub fn below(position: usize) -> usize
     ensures { result ≡ position - 1 }
 {
-    if 0 < position {
-        return position - 1;
-    }
-    0
-}
-
-// All of them, or none.
-fn all_if(all: bool, n: usize) -> usize
-    ensures { result ≡ choose all n 0 }
-{
-    if all {
-        return n;
-    }
-    0
+    position.saturating_sub(1)
 }
 
 // A change made where coordinator and records stand; `state` is the one that was read of the coordinator.
@@ -204,13 +130,13 @@ pub fn make(
 )
     ensures { (coordinator.new ≡ changed_from state change received.now coordinator.old) × (nodes.new ≡ amended change nodes.old) }
 {
-    let after = change::after(change, state, received);
-    put_state(coordinator, after);
+    put_state(coordinator, change::after(change, state, received));
     let kept = change::keeps(change);
-    keep(coordinator, kept, received);
-    let from = below(change.position);
-    amend(nodes, from, change.position, change.edit);
-    let to = all_if(change.owe, nodes.len());
-    number(nodes, to);
-    amend(nodes, 0, to, Edit::Owed);
+    change::keep(kept, received, &mut coordinator.kept.payload);
+    amend(nodes, below(change.position), change.position, change.edit);
+    if change.owe {
+        let n = nodes.len();
+        number(nodes, n);
+        amend(nodes, 0, n, Edit::Owed);
+    }
 }

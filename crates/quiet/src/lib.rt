@@ -17,13 +17,15 @@ use look::Seen;
 use refusal::Refusal;
 
 // The coordinator rests; joins are held no more where nobody is listed.
+#[tactic(auto, unfolding(ground::specs::Choose::choose))]
 fn rested(listed: bool) -> Move
     ensures { result ≡ choose listed (To Resting) Emptied }
 {
     if listed {
-        return Move::To(Phase::Resting);
+        Move::To(Phase::Resting)
+    } else {
+        Move::Emptied
     }
-    Move::Emptied
 }
 
 // The board did not answer: one miss more, and the third drops it. The list is then owed to all who remain: somebody does
@@ -35,8 +37,7 @@ fn missing(seen: Seen, node: Node, kinds: &[u8; 40], board: usize) -> Change
         return change::resting(Move::To(Phase::Resting), board, Edit::Missed, false, 0, 0);
     }
     let lowest = board::lowest(kinds, Wanted::Listed, 40);
-    let others = (0 < seen.top) & ((seen.top != board) | (lowest != board));
-    let left = rested(others);
+    let left = rested(0 < seen.top && (seen.top != board || lowest != board));
     change::resting(left, board, Edit::Cleared, true, 0, board)
 }
 
@@ -45,22 +46,11 @@ fn missing(seen: Seen, node: Node, kinds: &[u8; 40], board: usize) -> Change
 pub fn quiet(seen: Seen, node: Node, kinds: &[u8; 40]) -> Change
     ensures { Makes seen (λ c t. (kinds.now ≡ kinds_of t) × (node ≡ at t c.stand.board)) (λ c t. quiet_of c t) result }
 {
-    let state = seen.state;
-    let stand = state.stand;
-    let phase = coordinator::phase_of(stand);
-    match phase {
-        Phase::Awaiting {
-            board,
-            exchange: _,
-            requester: _,
-            acked,
-        } => {
-            if acked {
-                change::resting(Move::To(Phase::Resting), 0, Edit::Nothing, false, 0, 0)
-            } else {
-                missing(seen, node, kinds, board)
-            }
+    match coordinator::phase_of(seen.state.stand) {
+        Phase::Awaiting { acked, .. } if acked => {
+            change::resting(Move::To(Phase::Resting), 0, Edit::Nothing, false, 0, 0)
         }
+        Phase::Awaiting { board, .. } => missing(seen, node, kinds, board),
         Phase::Seeking { position, part } => seek::quieted(part, position),
         _ => change::refusing(Refusal::NotWaiting),
     }

@@ -9,6 +9,7 @@ use mathlib.Core.List.{List, [], ◌∷◌, ◌++◌}
 use lib.ListN.{length, get_or}
 use lib.Dec.{eqb, ltb}
 use borrow.Author.Tests.{eqb-true, ne_eqb}
+use Rattle.std.specs.Prelude.{Result, Ok, Err}
 use Rattle.ground.specs.Choose.{choose}
 use Rattle.ground.proofs.Choices.{and_right}
 use Rattle.refusal.specs.Refusal.{Told, number_of, gives}
@@ -30,9 +31,9 @@ use Rattle.setup.specs.Fitness.{FitSetup}
 use Rattle.message.specs.Message.{signed_header, signed, signed_frame, ack_code}
 use Rattle.message.proofs.Messages.{Form, ack_form, own_fields, own_back, signed_size, signed_small}
 use Rattle.accept.specs.declared.Heard.{Heard}
-use Rattle.accept.specs.declared.Heard.TheVariants.{Ack, Echo, Deliver, Route, Answer, Refused}
+use Rattle.accept.specs.declared.Heard.TheVariants.{Ack, Echo, Deliver, Route, Answer}
 use Rattle.accept.specs.declared.Reply.{Reply}
-use Rattle.accept.specs.declared.Reply.TheVariants.{Discovered, Present as AckCame, Identified, Assigned, Refused as NotTaken}
+use Rattle.accept.specs.declared.Reply.TheVariants.{Discovered, Present as AckCame, Identified, Assigned}
 use Rattle.accept.specs.Accept.{ack_session}
 use Rattle.accept.specs.Replies.{mac_after, is_discovery, heard_in_search}
 use Rattle.coordinator.specs.declared.Coordinator.{Coordinator}
@@ -97,19 +98,19 @@ module _ (t : List Node) (board : ℕ) (from : 1 ≤ board) (up_to : board ≤ l
       go true q = absurd (not_zero NoRoom q)
       go false q = cleared_put (heard (at t board)) refl
 
-  cleared_taken : (k : Heard) (e : Exchange) (requester : ℕ) (c : Coordinator) (h : Header) (p : List ℕ) (room : ℕ) → (taken_as k e board requester c t h p room).says.number ≡ 0 → Cleared t board (taken_as k e board requester c t h p room).nodes
-  cleared_taken Ack e requester c h p room a = go e
+  cleared_taken : (k : Result Heard Refusal) (e : Exchange) (requester : ℕ) (c : Coordinator) (h : Header) (p : List ℕ) (room : ℕ) → (taken_as k e board requester c t h p room).says.number ≡ 0 → Cleared t board (taken_as k e board requester c t h p room).nodes
+  cleared_taken (Ok Ack) e requester c h p room a = go e
     where
       go : (e : Exchange) → Cleared t board (acked e board requester c (hear_ack t board (ack_session p))).nodes
       go Offer = cleared_ack (ack_session p)
       go Listing = cleared_ack (ack_session p)
       go Forward = cleared_ack (ack_session p)
       go Return = cleared_ack (ack_session p)
-  cleared_taken Echo e requester c h p room a = cleared_acking c room _ _ a
-  cleared_taken Deliver e requester c h p room a = cleared_acking c room _ _ a
-  cleared_taken Route e requester c h p room a = cleared_acking c room _ _ a
-  cleared_taken Answer e requester c h p room a = cleared_acking c room _ _ a
-  cleared_taken (Refused r) e requester c h p room a = absurd (not_zero r a)
+  cleared_taken (Ok Echo) e requester c h p room a = cleared_acking c room _ _ a
+  cleared_taken (Ok Deliver) e requester c h p room a = cleared_acking c room _ _ a
+  cleared_taken (Ok Route) e requester c h p room a = cleared_acking c room _ _ a
+  cleared_taken (Ok Answer) e requester c h p room a = cleared_acking c room _ _ a
+  cleared_taken (Err r) e requester c h p room a = absurd (not_zero r a)
 
 -- a frame in the exchange by which a board joins changes the misses of nobody but who is listed at the position at stake
 module _ (t : List Node) where
@@ -154,12 +155,12 @@ module _ (t : List Node) where
         go true = refl
         go false = refl
 
-    spared_replied : (reply : Reply) (packet : ℕ) (payload : List ℕ) (room : ℕ) → Spared t position (replied_as reply position c t packet payload room).nodes
-    spared_replied Discovered packet payload room p ne = ap (λ (u : List Node). (at u p).misses) (spared_answered (discovered packet payload))
-    spared_replied AckCame packet payload room p ne = spared_hear position (mac_after payload) p ne
-    spared_replied Identified packet payload room p ne = spared_settled (identified c.found.version payload) room p ne
-    spared_replied Assigned packet payload room p ne = spared_settled c.found room p ne
-    spared_replied (NotTaken r) packet payload room p ne = refl
+    spared_replied : (reply : Result Reply Refusal) (packet : ℕ) (payload : List ℕ) (room : ℕ) → Spared t position (replied_as reply position c t packet payload room).nodes
+    spared_replied (Ok Discovered) packet payload room p ne = ap (λ (u : List Node). (at u p).misses) (spared_answered (discovered packet payload))
+    spared_replied (Ok AckCame) packet payload room p ne = spared_hear position (mac_after payload) p ne
+    spared_replied (Ok Identified) packet payload room p ne = spared_settled (identified c.found.version payload) room p ne
+    spared_replied (Ok Assigned) packet payload room p ne = spared_settled c.found room p ne
+    spared_replied (Err r) packet payload room p ne = refl
 
 -- the answer is deliver or transmit
 abbrev pub acks : Told → Bool
@@ -191,13 +192,13 @@ module _ (e : Exchange) (board requester : ℕ) (c : Coordinator) (t : List Node
       go true = inl (refl, refl)
       go false = inr (refl, q)
 
-  written_taken : (k : Heard) → Silent (taken_as k e board requester c t h p room) ⊎ Written (taken_as k e board requester c t h p room)
-  written_taken Ack = inl (written_acked e)
-  written_taken Echo = written_acking transmits _ refl
-  written_taken Deliver = written_acking delivers _ refl
-  written_taken Route = written_acking transmits _ refl
-  written_taken Answer = written_acking transmits _ refl
-  written_taken (Refused r) = inl (silent_refusal c t r)
+  written_taken : (k : Result Heard Refusal) → Silent (taken_as k e board requester c t h p room) ⊎ Written (taken_as k e board requester c t h p room)
+  written_taken (Ok Ack) = inl (written_acked e)
+  written_taken (Ok Echo) = written_acking transmits _ refl
+  written_taken (Ok Deliver) = written_acking delivers _ refl
+  written_taken (Ok Route) = written_acking transmits _ refl
+  written_taken (Ok Answer) = written_acking transmits _ refl
+  written_taken (Err r) = inl (silent_refusal c t r)
 
 -- what a frame writes in the exchange by which a board joins: nothing, or from the address at stake the ACK to it, with the index of the records that the step leaves
 module _ (position : ℕ) (c : Coordinator) (t : List Node) (h : Header) (p : List ℕ) (room : ℕ) where
@@ -220,23 +221,23 @@ module _ (position : ℕ) (c : Coordinator) (t : List Node) (h : Header) (p : Li
       go true = (refl, refl)
       go false = (refl, refl)
 
-  replied_written : (reply : Reply) → Silent (replied_as reply position c t h.packet p room) ⊎ Settled (replied_as reply position c t h.packet p room)
-  replied_written Discovered = inl (answered_silent (discovered h.packet p))
-  replied_written AckCame = inl (refl, refl)
-  replied_written Identified = settled_written (identified c.found.version p) refl
-  replied_written Assigned = settled_written c.found refl
-  replied_written (NotTaken r) = inl (silent_refusal c t r)
+  replied_written : (reply : Result Reply Refusal) → Silent (replied_as reply position c t h.packet p room) ⊎ Settled (replied_as reply position c t h.packet p room)
+  replied_written (Ok Discovered) = inl (answered_silent (discovered h.packet p))
+  replied_written (Ok AckCame) = inl (refl, refl)
+  replied_written (Ok Identified) = settled_written (identified c.found.version p) refl
+  replied_written (Ok Assigned) = settled_written c.found refl
+  replied_written (Err r) = inl (silent_refusal c t r)
 
   -- in search nobody has an address, and nothing is written
   search_silent : Silent (sought_in Search position c t h p room)
   unfolding heard_in_search choose
   search_silent = go (not (is_discovery h.message p))
     where
-      go : (b : Bool) → Silent (replied_as (choose b (NotTaken UnexpectedType) Discovered) position c t h.packet p room)
+      go : (b : Bool) → Silent (replied_as (choose b (Err UnexpectedType) (Ok Discovered)) position c t h.packet p room)
       go true = silent_refusal c t UnexpectedType
       go false = answered_silent (discovered h.packet p)
 
-  from_stake : (reply : Reply) → Silent (replied_as reply position c t h.packet p room) ⊎ ((address c.setup position ≡ address c.setup position) × Settled (replied_as reply position c t h.packet p room))
+  from_stake : (reply : Result Reply Refusal) → Silent (replied_as reply position c t h.packet p room) ⊎ ((address c.setup position ≡ address c.setup position) × Settled (replied_as reply position c t h.packet p room))
   from_stake reply = go (replied_written reply)
     where
       go : Silent (replied_as reply position c t h.packet p room) ⊎ Settled (replied_as reply position c t h.packet p room) → Silent (replied_as reply position c t h.packet p room) ⊎ ((address c.setup position ≡ address c.setup position) × Settled (replied_as reply position c t h.packet p room))

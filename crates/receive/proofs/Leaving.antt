@@ -2,7 +2,7 @@
 use Prim.Native.Nat.{ℕ, ◌+◌, ◌-◌, ◌≤◌, ◌<◌}
 use native.Mathlib.Omega.{arith}
 use mathlib.Core.Path.{◌≡◌, refl, sym, ap, ◌∙◌}
-use mathlib.Core.Bool.{Bool, true, false, not, false≢true}
+use mathlib.Core.Bool.{Bool, true, false, not}
 use mathlib.Core.List.{List, [], ◌∷◌, ◌++◌}
 use lib.ListN.{length, take, drop, length-drop}
 use lib.Seq.{length-take-le}
@@ -16,11 +16,10 @@ use Rattle.refusal.specs.declared.Refusal.{Refusal}
 use Rattle.refusal.specs.declared.Refusal.TheVariants.{NotForUs, NotDiscovering, NotAwaited}
 use Rattle.refusal.proofs.Rules.{Passed, passed, gave, refused as refused-for}
 use Rattle.frame.specs.declared.Header.{Header}
-use Rattle.frame.specs.declared.Reading.{Reading}
-use Rattle.frame.specs.declared.Reading.TheVariants.{Frame, Refused as NotRead}
-use Rattle.frame.specs.declared.Writing.{Writing}
-use Rattle.frame.specs.declared.Writing.TheVariants.{Written, Refused as NotWritten}
-use Rattle.frame.specs.Frame.{fields, header_of, length_byte, read_rules, reading, told as told-read}
+use Rattle.frame.specs.declared.Frame.{Frame}
+use Rattle.frame.specs.Frame.{Reading, Writing}
+use Rattle.std.specs.Prelude.{Result, Ok, Err}
+use Rattle.frame.specs.Frame.{fields, frame_values, header_of, length_byte, read_rules, reading, told as told-read}
 use Rattle.frame.proofs.Told.{WellRead, read_frame}
 use Rattle.board.specs.declared.Node.{Node}
 use Rattle.board.specs.Node.{is_old}
@@ -30,24 +29,19 @@ use Rattle.board.proofs.Numbered.{put_numbered}
 use Rattle.setup.specs.Fitness.{FitTable}
 use Rattle.board.specs.Columns.{kinds_of, versions_of, typed}
 use Rattle.board.proofs.SameKinds.{SameKinds}
-use Rattle.setup.specs.declared.Setup.{Setup}
 use Rattle.setup.specs.Setup.{address}
 use Rattle.nodelist.specs.List.{list_over, same_bytes, same_list}
 use Rattle.nodelist.proofs.Theorems.{columns_to_list}
 use Rattle.routing.specs.Route.{route_of}
 use Rattle.routing.proofs.Theorems.{kinds_route}
 use Rattle.message.specs.Message.{signed_header, signed, signed_frame, ack_code, Sends}
-use Rattle.accept.specs.contracts.Heard as hearings
 use Rattle.accept.specs.declared.Heard.{Heard as Hearing}
-use Rattle.accept.specs.declared.Heard.TheVariants.{Ack, Echo, Deliver, Route, Answer as Response, Refused as NotTaken}
+use Rattle.accept.specs.declared.Heard.TheVariants.{Ack, Echo, Deliver, Route, Answer as Response}
 use Rattle.coordinator.specs.declared.Coordinator.{Coordinator}
 use Rattle.coordinator.specs.declared.Kept.{Kept}
 use Rattle.coordinator.specs.contracts.Exchange as exchange
 use Rattle.coordinator.specs.declared.Exchange.{Exchange}
 use Rattle.coordinator.specs.declared.Exchange.TheVariants.{Offer, List as Listing, Forward, Return}
-use Rattle.coordinator.specs.contracts.Part as parts
-use Rattle.coordinator.specs.declared.Part.{Part}
-use Rattle.coordinator.specs.declared.Part.TheVariants.{Search, IdentifyDue, Identify, Present, AssignDue, Assign}
 use Rattle.coordinator.specs.contracts.Phase as phase
 use Rattle.coordinator.specs.declared.Phase.{Phase}
 use Rattle.coordinator.specs.declared.Phase.TheVariants.{Resting, Awaiting, ForwardDue, ReturnDue, Seeking, Unknown}
@@ -61,9 +55,8 @@ use Rattle.look.specs.Seen.{Saw}
 use Rattle.look.proofs.Seeing.{kinds_seen}
 use Rattle.steps.specs.declared.Answer.{Answer}
 use Rattle.steps.specs.declared.Answer.TheVariants.{Refuse}
-use Rattle.steps.specs.After.{After, Shown, shows, leaving, refused, accepted, rests, transmits, told}
+use Rattle.steps.specs.After.{After, Shown, shows, leaving, refused, accepted, rests, told}
 use Rattle.steps.specs.Hear.{hear}
-use Rattle.steps.specs.Seek.{source_in}
 use Rattle.steps.specs.Receive.{payload, awaits, answers_forward, is_stray, heard_in, hear_ack, kept_of, acking, routed, acked, taken_as, taken_in, hears_old, read_in, receive_in, receive_of}
 use Rattle.steps.proofs.Writes.{shown_as, leaves_ack_written}
 use Rattle.change.specs.declared.Edit.TheVariants.{Nothing, Heard, Renewed}
@@ -104,8 +97,8 @@ shows_ack o Return board requester c t h = (h, refl)
 
 -- the change of an ACK that is due, by what its writing gave
 abbrev pub acked_as : Writing → Move → ℕ → Answer → Change
-acked_as (Written n) after board answer = changing after board Heard false answer n 0 0
-acked_as (NotWritten q) after board answer = changing Stay 0 Nothing false (Refuse q) 0 0 0
+acked_as (Ok n) after board answer = changing after board Heard false answer n 0 0
+acked_as (Err q) after board answer = changing Stay 0 Nothing false (Refuse q) 0 0 0
 
 -- the message kept of bytes that bring a frame is the frame's
 pub keeps_brought : (c : Coordinator) (w : Phase) (b : List ℕ) (h : Header) (p : List ℕ) → Brings b h p → moved (Keeping w) b c ≡ with_phase (keeping c (kept_of h p)) w
@@ -121,8 +114,8 @@ module _ {seen : Seen} {c : Coordinator} {t : List Node} (s : Saw seen c t) (b :
       frame = accepted (moved after b c) (hear t board) (told answer) (signed_frame c.setup t board (at t board).version ack_code)
 
       shown_as_lem : (v : Writing) → applied (acked_as v after board answer) b c t ≡ shown_as v c t frame
-      shown_as_lem (Written n) = refl
-      shown_as_lem (NotWritten q) = makes_refusal b c t q refl
+      shown_as_lem (Ok n) = refl
+      shown_as_lem (Err q) = makes_refusal b c t q refl
 
 -- what was seen of the types tells what they tell of the records
 module _ {seen : Seen} {kinds : List ℕ} {c : Coordinator} {t : List Node} (s : Saw seen c t) (k : kinds ≡ kinds_of t) where
@@ -148,32 +141,13 @@ module _ {seen : Seen} {kinds : List ℕ} {c : Coordinator} {t : List Node} (s :
     pub routed_off : to ≤ 0 → routed c h p board (route_of t c.setup.k board h.method h.parameter1) ≡ with_phase c Resting
     routed_off l = rw (← goes) (sym (choose_no _ _ _ _ (le-ltb 0 to l) refl))
 
--- all that is neither an ACK nor refused is acknowledged
-pub acknowledges : (k : Hearing) → OneOf (1 ∷ 2 ∷ 3 ∷ 4 ∷ []) (tag_of hearings.the_type k) → is_acknowledged k ≡ true
-acknowledges Ack i = absurd (miss (1 ∷ 2 ∷ 3 ∷ 4 ∷ []) 0 tt i)
-acknowledges Echo i = refl
-acknowledges Deliver i = refl
-acknowledges Route i = refl
-acknowledges Response i = refl
-acknowledges (NotTaken r) i = absurd (miss (1 ∷ 2 ∷ 3 ∷ 4 ∷ []) 5 tt i)
-
--- of what is acknowledged the list's echo alone is neither delivered, routed nor returned
-pub follows_echo : (k : Hearing) (e : Exchange) (board requester : ℕ) (c : Coordinator) (t : List Node) (h : Header) (p : List ℕ) (room : ℕ) → OneOf (0 ∷ 1 ∷ 5 ∷ []) (tag_of hearings.the_type k) → is_acknowledged k ≡ true → taken_as k e board requester c t h p room ≡ acking c t board room transmits (with_phase c Resting)
-follows_echo Ack e board requester c t h p room i a = absurd (false≢true a)
-follows_echo Echo e board requester c t h p room i a = refl
-follows_echo Deliver e board requester c t h p room i a = absurd (miss (0 ∷ 1 ∷ 5 ∷ []) 2 tt i)
-follows_echo Route e board requester c t h p room i a = absurd (miss (0 ∷ 1 ∷ 5 ∷ []) 3 tt i)
-follows_echo Response e board requester c t h p room i a = absurd (miss (0 ∷ 1 ∷ 5 ∷ []) 4 tt i)
-follows_echo (NotTaken r) e board requester c t h p room i a = absurd (false≢true a)
-
--- in every part but search the source awaited is the address at stake
-pub source_at_stake : (part : Part) (s : Setup) (position : ℕ) → OneOf (1 ∷ 2 ∷ 3 ∷ 4 ∷ 5 ∷ []) (tag_of parts.the_type part) → source_in part s position ≡ address s position
-source_at_stake Search s position k = absurd (miss (1 ∷ 2 ∷ 3 ∷ 4 ∷ 5 ∷ []) 0 tt k)
-source_at_stake IdentifyDue s position k = refl
-source_at_stake Identify s position k = refl
-source_at_stake Present s position k = refl
-source_at_stake AssignDue s position k = refl
-source_at_stake Assign s position k = refl
+-- all but an ACK is acknowledged
+pub acknowledges : (k : Hearing) → (k ≡ Ack → ⊥) → is_acknowledged k ≡ true
+acknowledges Ack ne = absurd (ne refl)
+acknowledges Echo ne = refl
+acknowledges Deliver ne = refl
+acknowledges Route ne = refl
+acknowledges Response ne = refl
 
 -- of what is kept a stray asks for the head alone
 answers_bare : (w : Phase) (m : Kept) (message : ℕ) → answers_forward w (bare (head_of m)) message ≡ answers_forward w m message
@@ -199,8 +173,8 @@ module _ {seen : Seen} {c : Coordinator} {t : List Node} (s : Saw seen c t) (h :
     waited_taken k = sym (choose_no _ _ _ _ (rw s.setup at k) refl)
 
   -- what a frame from the board gets, by what it is to the wait
-  pub waited_heard : (e : Exchange) (board requester : ℕ) (a : Bool) {n : ℕ} {k : Hearing} → n ≡ address seen.setup board → h.source ≡ n → k ≡ heard_in e board a c t h p → waited (Awaiting board e requester a) c t h p room ≡ taken_as k e board requester c t h p room
-  waited_heard e board requester a q from k = waited_taken (Awaiting board e requester a) (not_no _ (eq-eqb _ _ (from ∙ q))) ∙ ap (λ (x : Hearing). taken_as x e board requester c t h p room) (sym k)
+  pub waited_heard : (e : Exchange) (board requester : ℕ) (a : Bool) {n : ℕ} {k : Result Hearing Refusal} → n ≡ address seen.setup board → h.source ≡ n → k ≡ heard_in e board a c t h p → waited (Awaiting board e requester a) c t h p room ≡ taken_as k e board requester c t h p room
+  waited_heard e board requester a q from k = waited_taken (Awaiting board e requester a) (not_no _ (eq-eqb _ _ (from ∙ q))) ∙ ap (λ (x : Result Hearing Refusal). taken_as x e board requester c t h p room) (sym k)
 
   -- nothing is waited for in the other phases
   pub waited_idle : (w : Phase) → OneOf (0 ∷ 2 ∷ 3 ∷ 5 ∷ []) (tag_of phase.the_type w) → waited w c t h p room ≡ refused c t NotAwaited
@@ -252,28 +226,28 @@ read_seen {c = c} {t = t} s {n} e b = rw (s.setup, s.state, hears_seen c t n e (
 -- bytes received, of a coordinator and records that are fit
 module _ {seen : Seen} {c : Coordinator} {t : List Node} (s : Saw seen c t) (b : List ℕ) (room : ℕ) {r : Reading} (e : told-read r ≡ reading (read_in (phase_of c.stand) c t b) b) where
   -- the reader's refusals come first
-  pub received_unread : {q : Refusal} → r ≡ NotRead q → receive_of c t b room ≡ refused c t q
+  pub received_unread : {q : Refusal} → r ≡ Err q → receive_of c t b room ≡ refused c t q
   unfolding receive_in reading
   received_unread {q} n = sym (choose_no _ _ _ _ (not_no _ s.fit) (sym (refused-for (read_rules (read_in (phase_of c.stand) c t b) b) (fields (header_of b) ++ length_byte b ∷ []) (refused c t) _ q (sym e ∙ ap told-read n))))
 
   -- then what a good frame gets
-  pub received_read : {g : Header} {n : ℕ} → r ≡ Frame g n → receive_of c t b room ≡ listened (phase_of c.stand) c t g (payload b) room
+  pub received_read : {f : Frame} → r ≡ Ok f → receive_of c t b room ≡ listened (phase_of c.stand) c t f.header (payload b) room
   unfolding receive_in reading listened waited
-  received_read {g} {n} w =
+  received_read {f} w =
       sym (choose_no _ _ _ _ (not_no _ s.fit) (sym (passed (read_rules (read_in (phase_of c.stand) c t b) b) (refused c t) _ ok)))
       ∙ ap (λ (x : Header). listened (phase_of c.stand) c t x (payload b) room) (sym (read_frame (read_in (phase_of c.stand) c t b) b w e).header)
     where
       ok : Passed (read_rules (read_in (phase_of c.stand) c t b) b)
-      ok = (gave (read_rules (read_in (phase_of c.stand) c t b) b) (fields (header_of b) ++ length_byte b ∷ []) (fields g ++ n ∷ []) (sym e ∙ ap told-read w)).0
+      ok = (gave (read_rules (read_in (phase_of c.stand) c t b) b) (fields (header_of b) ++ length_byte b ∷ []) (frame_values f) (sym e ∙ ap told-read w)).0
 
 -- bytes that read well
-module _ {ours : ℕ} {b : List ℕ} {g : Header} {n : ℕ} (read : WellRead ours b g n) where
+module _ {ours : ℕ} {b : List ℕ} {f : Frame} (read : WellRead ours b f) where
   -- the part from offset 10, as long as was read, is the payload
-  pub part_is : take (10 + n - 10) (drop 10 b) ≡ payload b
-  part_is = ap (λ (m : ℕ). take m (drop 10 b)) (let e : 10 + n - 10 ≡ n = omega arith in e ∙ read.count)
+  pub part_is : take (10 + f.length - 10) (drop 10 b) ≡ payload b
+  part_is = ap (λ (m : ℕ). take m (drop 10 b)) (let e : 10 + f.length - 10 ≡ f.length = omega arith in e ∙ read.count)
 
   -- they bring their header and their payload
-  pub brings_read : Brings b g (payload b)
+  pub brings_read : Brings b f.header (payload b)
   brings_read = (sym (choose_no _ _ _ _ (le-ltb (length b) 10 (omega (arith, read.bytes.long))) (rw (read.header, payload_long) refl)), keeps_whole b read.bytes.small)
     where
       payload_long : length (payload b) ≡ length_byte b

@@ -1,7 +1,8 @@
 -- The parts of the step: what its functions leave.
-use Rattle.std.specs.Prelude.{ℕ, ◌≡◌, Bool, true, false, ◌&&◌, not, List, [], ◌∷◌, eqb, length}
+use Rattle.std.specs.Prelude.{ℕ, ◌≡◌, Bool, true, false, ◌&&◌, not, List, [], ◌∷◌, eqb, length, Result, Ok}
 use Rattle.ground.specs.Choose.{choose}
 use Rattle.refusal.specs.Refusal.{ruled}
+use Rattle.refusal.specs.declared.Refusal.{Refusal}
 use Rattle.refusal.specs.declared.Refusal.TheVariants.{NotForUs, NotDiscovering, NotAwaited}
 use Rattle.frame.specs.declared.Header.{Header}
 use Rattle.frame.specs.Frame.{header_of}
@@ -10,7 +11,7 @@ use Rattle.board.specs.Node.{is_old}
 use Rattle.board.specs.Table.{at}
 use Rattle.board.specs.Columns.{kinds_of, versions_of}
 use Rattle.accept.specs.declared.Heard.{Heard}
-use Rattle.accept.specs.declared.Heard.TheVariants.{Ack, Echo, Deliver, Route, Answer as Response, Refused}
+use Rattle.accept.specs.declared.Heard.TheVariants.{Ack, Echo, Deliver, Route, Answer as Response}
 use Rattle.setup.specs.Setup.{old_subnet}
 use Rattle.setup.specs.Fitness.{FitTable}
 use Rattle.coordinator.specs.declared.Coordinator.{Coordinator}
@@ -30,7 +31,6 @@ use Rattle.change.specs.declared.Move.{Move}
 use Rattle.change.specs.declared.Change.{Change}
 use Rattle.change.specs.Change.{head_in, keepable, moved, changing, applied}
 use Rattle.change.specs.Decides.{Takes}
-use Rattle.receive.specs.declared.Next.{Next}
 
 -- the bytes received are a frame of this header and payload, as far as it is kept (house)
 abbrev pub Brings : List ℕ → Header → List ℕ → Type 0
@@ -56,7 +56,7 @@ Acks seen board version index answer after x before left =
     (b : List ℕ) → Takes seen (λ c t. (version ≡ (at t board).version) × (index ≡ (at t board).index)) b (λ c t. acking c t board (length before) (told answer) (moved after b c)) x before left
 
 -- what a frame is to a wait for a board of which this is the record
-abbrev pub Hears : Seen → List ℕ → List ℕ → Node → Exchange → Bool → Header → List ℕ → Heard → Type 0
+abbrev pub Hears : Seen → List ℕ → List ℕ → Node → Exchange → Bool → Header → List ℕ → Result Heard Refusal → Type 0
 Hears seen kinds versions n exchange acked h p r =
     (c : Coordinator) (t : List Node) (board : ℕ) → Saw seen c t → kinds ≡ kinds_of t → versions ≡ versions_of t → n ≡ at t board → r ≡ heard_in exchange board acked c t h p
 
@@ -67,13 +67,12 @@ is_acknowledged Echo = true
 is_acknowledged Deliver = true
 is_acknowledged Route = true
 is_acknowledged Response = true
-is_acknowledged (Refused r) = false
 
 -- what follows such a frame: the ACK, with this answer and the coordinator moved so, is all that the frame does (01, "Frame")
-abbrev pub Follows : Heard → Seen → List ℕ → ℕ → ℕ → Header → Next → Type 0
+abbrev pub Follows : Heard → Seen → List ℕ → ℕ → ℕ → Header → Answer × Move → Type 0
 Follows heard seen kinds board requester h n =
     (b p : List ℕ) → Brings b h p → (c : Coordinator) (t : List Node) (exchange : Exchange) (room : ℕ) → Saw seen c t → OfTypes kinds c t
-    → taken_as heard exchange board requester c t h p room ≡ acking c t board room (told n.answer) (moved n.moves b c)
+    → taken_as (Ok heard) exchange board requester c t h p room ≡ acking c t board room (told n.0) (moved n.1 b c)
 
 -- what a frame does in a wait, a board's or of the exchange by which a board joins: 6 from another source (01, "Numbers"; 02, C-11)
 unfoldable pub waited : Phase → Coordinator → List Node → Header → List ℕ → ℕ → After

@@ -7,7 +7,8 @@ use lib.Dec.{ltb}
 use lib.ListN.{get_or, get_or-eq_default}
 use borrow.Author.Tests.{ltb-true, ltb-false}
 use native.Mathlib.Omega.{arith}
-use Rattle.refusal.specs.Refusal.{number_of, refuses, gives, Told}
+use Rattle.std.specs.Prelude.{Result, Ok, Err, IsErrAnd}
+use Rattle.refusal.specs.Refusal.{number_of, refuses, gives, says, counts, Told}
 use Rattle.refusal.specs.declared.Refusal.{Refusal}
 use Rattle.refusal.specs.declared.Refusal.TheVariants.{Short, OverLong, LengthMismatch, BadChecksum, NotForUs, NotAwaited, UnexpectedType, BadEcho, BadMethod, PayloadTooLong, NoRoom, BadType, BadMac, Busy, Held, Full, AwaitingReply, NobodyListed, NotWaiting, BadPool, StateUnfit, NotDiscovering, OtherSubnet, TooManyTypes, BadLength, NoSlot, BadInner, TooDeep, BadTextLength, BadText}
 
@@ -97,3 +98,18 @@ same_refused r q h = same_number r q (told_number h)
 -- and one that gives values refuses nothing
 pub gives_not : (vs : List ℕ) (q : Refusal) → gives vs ≡ refuses q → ⊥
 gives_not vs q e = not_zero q (sym (told_number e))
+
+-- two answers that say the same are the same, where the numbers of a value tell the value
+pub same_said : {A : Type 0} (values : A → List ℕ) → ((x y : A) → values x ≡ values y → x ≡ y) → (r q : Result A Refusal) → says values r ≡ says values q → r ≡ q
+same_said values tell (Ok x) (Ok y) e = ap Ok (tell x y (told_values e))
+same_said values tell (Ok x) (Err q) e = absurd (gives_not _ q e)
+same_said values tell (Err r) (Ok y) e = absurd (gives_not _ r (sym e))
+same_said values tell (Err r) (Err q) e = ap Err (same_refused r q e)
+
+pub same_counts : (r q : Result ℕ Refusal) → counts r ≡ counts q → r ≡ q
+same_counts = same_said (λ n. n ∷ []) (λ n m e. ap (λ (l : List ℕ). get_or l 0 0) e)
+
+-- what a `?` hands on is the refusal
+pub exit : {A : Type 0} (r : Result A Refusal) (q : Refusal) → IsErrAnd r (λ y. y ≡ q) → r ≡ Err q
+exit (Ok x) q h = absurd h
+exit (Err y) q h = ap Err h

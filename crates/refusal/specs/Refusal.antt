@@ -1,5 +1,5 @@
 -- The refusals and their numbers (01, "Numbers a caller may be given").
-use Rattle.std.specs.Prelude.{ℕ, Bool, List, [], ◌∷◌, get_or}
+use Rattle.std.specs.Prelude.{ℕ, Bool, List, [], ◌∷◌, get_or, Result, Ok, Err}
 use Rattle.ground.specs.Choose.{choose}
 use Rattle.refusal.specs.declared.Refusal.{Refusal}
 use Rattle.refusal.specs.declared.Refusal.TheVariants.{Short, OverLong, LengthMismatch, BadChecksum, NotForUs, NotAwaited, UnexpectedType, BadEcho, BadMethod, PayloadTooLong, NoRoom, BadType, BadMac, Busy, Held, Full, AwaitingReply, NobodyListed, NotWaiting, BadPool, StateUnfit, NotDiscovering, OtherSubnet, TooManyTypes, BadLength, NoSlot, BadInner, TooDeep, BadTextLength, BadText}
@@ -53,6 +53,15 @@ refuses r = record { number = number_of r; values = [] }
 -- an answer that gives these values
 abbrev pub gives : List ℕ → Told
 gives vs = record { number = 0; values = vs }
+
+-- what an answer says that gives a value or refuses: the numbers of the value, or the refusal's number alone
+abbrev pub says : {A : Type 0} → (A → List ℕ) → Result A Refusal → Told
+says values (Ok x) = gives (values x)
+says values (Err r) = refuses r
+
+-- what one says that counts, or gives another number, or refuses
+abbrev pub counts : Result ℕ Refusal → Told
+counts = says (λ n. n ∷ [])
 
 -- rules in the order in which they are tested: the first that holds refuses, and where none does the value stands
 abbrev pub ruled {ℓ} : {A : Type ℓ} → List (Bool × Refusal) → (Refusal → A) → A → A

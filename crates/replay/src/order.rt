@@ -1,189 +1,107 @@
 // What a line asks for, read off its words before anything is played.
-use script::Count;
+use script::{ANY, Line};
 use steps::Event;
 
-// The first words.
+// What a line asks for. The addresses and the frame stand in the bytes that were lent to the reader.
 #[derive(Clone, Copy)]
-enum Word {
-    Setup,
-    Join,
-    Turn,
-    Discover,
-    Frame,
-    Quiet,
-    Table,
-    Other,
-}
-
-// What a line asks for; the addresses and the frame stand in the bytes beside it, as many as it says.
-#[derive(Clone, Copy)]
-pub(crate) enum Order {
+pub(crate) enum Order<'a> {
     Pass,
     Setup {
         subnet: u8,
         internal: u8,
         mac: u64,
         session: u64,
-        count: usize,
+        addresses: &'a [u8],
     },
     Step {
         event: Event,
         room: usize,
-        count: usize,
+        received: &'a [u8],
     },
     Table,
-    Bad,
 }
 
-// Four of the seven words; `word_of` has the others, and asks here last.
-fn later_word(word: &[u8]) -> Word {
-    if script::same(word, b"discover") {
-        return Word::Discover;
+// The addresses up to the end of the line, as many as there is room for; further ones are only looked at.
+fn read_addresses<'a>(mut line: Line<'_>, bytes: &'a mut [u8]) -> Option<&'a [u8]> {
+    // The words go on past the room, so that no loop over its places fits.
+    let mut n = 0;
+    while !line.is_over() {
+        let address = line.byte()?;
+        if let Some(place) = bytes.get_mut(n) {
+            *place = address;
+            n += 1;
+        }
     }
-    if script::same(word, b"frame") {
-        return Word::Frame;
-    }
-    if script::same(word, b"quiet") {
-        return Word::Quiet;
-    }
-    if script::same(word, b"table") {
-        return Word::Table;
-    }
-    Word::Other
-}
-
-fn word_of(word: &[u8]) -> Word {
-    if script::same(word, b"setup") {
-        return Word::Setup;
-    }
-    if script::same(word, b"join") {
-        return Word::Join;
-    }
-    if script::same(word, b"turn") {
-        return Word::Turn;
-    }
-    later_word(word)
-}
-
-// The addresses from here on to the end of the line, as many as there is room for; further ones are only looked at and counted.
-fn addresses(line: &[u8], at: usize, out: &mut [u8]) -> Count {
-    let mut n: usize = 0;
-    let mut ok = true;
-    let mut from = at;
-    while from <= line.len() {
-        let f = script::field_at(line, from, 255);
-        ok = ok & f.ok;
-        let address = [script::byte(f.value)];
-        ground::lay(out, n, &address);
-        n += 1;
-        from = f.next;
-    }
-    Count { value: n, ok: ok }
+    Some(&bytes[..n])
 }
 
 // setup SUBNET INTERNAL MAC SESSION ADDRESS...
-fn read_setup(line: &[u8], bytes: &mut [u8]) -> Order {
-    let subnet = script::field_at(line, 6, 255);
-    let internal = script::field_at(line, subnet.next, 255);
-    let mac = script::field_at(line, internal.next, script::ANY);
-    let session = script::field_at(line, mac.next, script::ANY);
-    let n = addresses(line, session.next, bytes);
-    if subnet.ok & internal.ok & mac.ok & session.ok & n.ok {
-        Order::Setup {
-            subnet: script::byte(subnet.value),
-            internal: script::byte(internal.value),
-            mac: mac.value,
-            session: session.value,
-            count: n.value,
-        }
-    } else {
-        Order::Bad
+fn read_setup<'a>(mut line: Line<'_>, bytes: &'a mut [u8]) -> Option<Order<'a>> {
+    Some(Order::Setup {
+        subnet: line.byte()?,
+        internal: line.byte()?,
+        mac: line.number(ANY)?,
+        session: line.number(ANY)?,
+        addresses: read_addresses(line, bytes)?,
+    })
+}
+
+// What a line asks for whose last word has been read.
+fn last<'a>(line: Line<'_>, order: Order<'a>) -> Option<Order<'a>> {
+    line.is_over().then_some(order)
+}
+
+// A step that nothing was received for.
+fn plain_step<'a>(event: Event, room: usize) -> Order<'a> {
+    Order::Step {
+        event,
+        room,
+        received: &[],
     }
 }
 
 // join TYPE MAC SESSION VERSION
-fn read_join(line: &[u8]) -> Order {
-    let kind = script::field_at(line, 5, 255);
-    let mac = script::field_at(line, kind.next, script::ANY);
-    let session = script::field_at(line, mac.next, script::ANY);
-    let version = script::field_at(line, session.next, 255);
-    if kind.ok & mac.ok & session.ok & version.ok & (line.len() < version.next) {
-        let event = Event::Join {
-            kind: script::byte(kind.value),
-            mac: mac.value,
-            session: session.value,
-            version: script::byte(version.value),
-        };
-        Order::Step {
-            event: event,
-            room: 0,
-            count: 0,
-        }
-    } else {
-        Order::Bad
-    }
+fn read_join<'a>(mut line: Line<'_>) -> Option<Order<'a>> {
+    let event = Event::Join {
+        kind: line.byte()?,
+        mac: line.number(ANY)?,
+        session: line.number(ANY)?,
+        version: line.byte()?,
+    };
+    last(line, plain_step(event, 0))
 }
 
-// turn ROOM, discover ROOM: the event, and from here on the room for what it writes
-fn read_room(line: &[u8], at: usize, event: Event) -> Order {
-    let room = script::field_at(line, at, 1024);
-    if room.ok & (line.len() < room.next) {
-        Order::Step {
-            event: event,
-            room: room.value as usize,
-            count: 0,
-        }
-    } else {
-        Order::Bad
-    }
+// turn ROOM, discover ROOM
+fn read_turn<'a>(mut line: Line<'_>, event: Event) -> Option<Order<'a>> {
+    let room = line.room()?;
+    last(line, plain_step(event, room))
 }
 
 // frame ROOM HEX
-fn read_frame(line: &[u8], bytes: &mut [u8]) -> Order {
-    let room = script::field_at(line, 6, 1024);
-    let n = script::bytes_from(line, room.next, bytes);
-    if room.ok & n.ok {
-        Order::Step {
-            event: Event::Frame,
-            room: room.value as usize,
-            count: n.value,
-        }
-    } else {
-        Order::Bad
-    }
+fn read_frame<'a>(mut line: Line<'_>, bytes: &'a mut [u8]) -> Option<Order<'a>> {
+    let room = line.room()?;
+    let n = script::bytes_from(line.text, line.at, bytes)?;
+    Some(Order::Step {
+        event: Event::Frame,
+        room,
+        received: &bytes[..n],
+    })
 }
 
-// A line that is one word.
-fn alone(line: &[u8], order: Order) -> Order {
-    if line.len() == 5 { order } else { Order::Bad }
-}
-
-fn read_words(line: &[u8], bytes: &mut [u8]) -> Order {
-    let n = script::before(line, b' ');
-    let word = word_of(&line[..n]);
-    match word {
-        Word::Setup => read_setup(line, bytes),
-        Word::Join => read_join(line),
-        Word::Turn => read_room(line, 5, Event::Turn),
-        Word::Discover => read_room(line, 9, Event::Discover),
-        Word::Frame => read_frame(line, bytes),
-        Word::Quiet => alone(
-            line,
-            Order::Step {
-                event: Event::Quiet,
-                room: 0,
-                count: 0,
-            },
-        ),
-        Word::Table => alone(line, Order::Table),
-        Word::Other => Order::Bad,
+// What a line asks for, or none where it is a bad one; one that is passed over asks for nothing.
+pub(crate) fn read_line<'a>(text: &[u8], bytes: &'a mut [u8]) -> Option<Order<'a>> {
+    if script::is_passed(text) {
+        return Some(Order::Pass);
     }
-}
-
-// What a line asks for; one that is passed over asks for nothing.
-pub(crate) fn read_line(line: &[u8], bytes: &mut [u8]) -> Order {
-    if script::is_passed(line) {
-        return Order::Pass;
+    let mut line = Line { text, at: 0 };
+    match line.word()? {
+        b"setup" => read_setup(line, bytes),
+        b"join" => read_join(line),
+        b"turn" => read_turn(line, Event::Turn),
+        b"discover" => read_turn(line, Event::Discover),
+        b"frame" => read_frame(line, bytes),
+        b"quiet" => last(line, plain_step(Event::Quiet, 0)),
+        b"table" => last(line, Order::Table),
+        _ => None,
     }
-    read_words(line, bytes)
 }

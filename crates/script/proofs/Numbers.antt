@@ -6,19 +6,16 @@ use native.Mathlib.Decide.{ℕ_discrete}
 use mathlib.Core.Path.{◌≡◌, refl, sym, ap, ◌∙◌}
 use mathlib.Core.List.{List}
 use mathlib.Core.Bool.{Bool, true, false, false≢true}
-use lib.ListN.{length, get_or, take}
+use lib.ListN.{length, get_or}
 use lib.Dec.{leb, ltb}
 use borrow.Author.Tests.{lt-ltb, le-ltb, le-leb, lt-leb, leb-true}
+use Rattle.std.specs.Prelude.{Option, Some, None}
 use Rattle.ground.specs.Below.{all}
 use Rattle.ground.specs.Choose.{choose}
 use Rattle.ground.proofs.Choices.{choose_yes, choose_no, chosen, unchosen, and_left, and_right, both, not_left, not_right, never}
 use Rattle.ground.proofs.Loops.{all_none, all_at, all_more}
-use Rattle.script.specs.declared.Field.{Field}
-use Rattle.script.specs.declared.Worth.{Worth}
-use Rattle.script.specs.Words.{before}
-use Rattle.script.specs.Numbers.{between, is_digit, worth_to, worth, is_number, fits, widest, worth_of, field_at}
-use Rattle.ground.proofs.Runs.{rest_is}
-use Rattle.script.proofs.Words.{rest}
+use Rattle.script.specs.Words.{word_from}
+use Rattle.script.specs.Numbers.{between, is_digit, worth_to, worth, is_number, fits, widest, worth_of, field_of, field_at}
 
 -- a byte passes where it lies between the two, and nowhere else
 pub between_yes : (low high b : ℕ) → low ≤ b → b ≤ high → between low high b ≡ true
@@ -88,49 +85,61 @@ module _ (word : List ℕ) where
             let m = leb-true (worth word) most (and_right (is_number word) (leb (worth word) most) e) in
             both (is_number word) (leb (worth word) wide) n (le-leb (worth word) wide (omega arith))
 
--- the field at a place, as it is read: past the line's end, or from the word of n bytes there
-pub no_field : (line : List ℕ) (at most : ℕ) → length line < at → record { value = 0; next = at; ok = false } ≡ field_at line at most
-unfolding field_at
-no_field line at most l = choose_yes _ _ _ _ (lt-ltb _ _ l) refl
+-- what code answers of a word that is no number, one with a byte that is no digit, one that is worth too much, and of a number
+module _ (word : List ℕ) where
+  pub empty_told : length word ≡ 0 → None ≡ worth_of word
+  empty_told e = choose_no _ _ _ _ (no_fit word widest (no_digits word (omega arith))) refl
 
-module _ (line : List ℕ) (at most n : ℕ) (within : at ≤ length line) (e : n ≡ before 32 (rest line at)) (l : n ≡ length (take n (rest line at))) where
-  abbrev word : List ℕ
-  word = take n (rest line at)
+  pub other_told : (i : ℕ) → i < length word → (48 ≤ get_or word i 0 → get_or word i 0 ≤ 57 → ⊥) → None ≡ worth_of word
+  other_told i l h = choose_no _ _ _ _ (no_fit word widest (other_byte word i l h)) refl
 
-  abbrev read : List ℕ → Field
-  read w = record { value = choose (fits most w) (worth w) 0; next = at + length w + 1; ok = fits most w }
+  pub over_told : (i n : ℕ) → n ≡ worth_to word i → i < length word → widest < 10 * n + (get_or word i 0 - 48) → None ≡ worth_of word
+  over_told i n e l h = choose_no _ _ _ _ (too_much word widest (i + 1) (omega arith) (rw worth_more (omega arith))) refl
 
-  field : (t : Bool) (v : ℕ) → fits most word ≡ t → v ≡ choose t (worth word) 0 → record { value = v; next = at + n + 1; ok = t } ≡ field_at line at most
+  pub number_told : (i n : ℕ) → n ≡ worth_to word i → digits_to word i ≡ true → i ≡ length word → 0 < i → n ≤ widest → Some n ≡ worth_of word
+  number_told i n e h z l m =
+      let whole : worth_to word i ≡ worth word = ap (worth_to word) z in
+      choose_yes _ _ _ _ (does_fit word widest (is_number_lem word (omega arith) (ap (digits_to word) (sym z) ∙ h)) (omega arith)) (ap Some (e ∙ whole))
+
+  -- and a digit more
+  pub digit_told : (i n m : ℕ) → n ≡ worth_to word i → digits_to word i ≡ true → 48 ≤ get_or word i 0 → get_or word i 0 ≤ 57 → m ≡ n * 10 + (get_or word i 0 - 48) → m ≤ widest → (m ≡ worth_to word (i + 1)) × (digits_to word (i + 1) ≡ true) × (m ≤ widest)
+  digit_told i n m e h a b p l = (rw worth_more (omega arith), digits_more word i h a b, l)
+
+-- what code was told of a word's worth
+worth_some : (word : List ℕ) (v : ℕ) → Some v ≡ worth_of word → (is_number word ≡ true) × (v ≡ worth word)
+worth_some word v q = go (fits widest word) refl q
+  where
+    go : (b : Bool) → fits widest word ≡ b → Some v ≡ choose b (Some (worth word)) None → (is_number word ≡ true) × (v ≡ worth word)
+    go true f r = (and_left (is_number word) (leb (worth word) widest) f, cc (chosen (Some (worth word)) None))
+    go false f r = absurd (let z : ◌≡◌ {A = ℕ} 0 1 = cc (unchosen (Some (worth word)) None) in omega arith)
+
+worth_none : (word : List ℕ) → None ≡ worth_of word → fits widest word ≡ false
+worth_none word q = go (fits widest word) refl q
+  where
+    go : (b : Bool) → fits widest word ≡ b → None ≡ choose b (Some (worth word)) None → fits widest word ≡ false
+    go true f r = absurd (let z : ◌≡◌ {A = ℕ} 0 1 = cc (chosen (Some (worth word)) None) in omega arith)
+    go false f r = f
+
+-- the field that is read from the word there: one that fits, one that is over, and one that is no number
+module _ (line word : List ℕ) (at most next : ℕ) (there : Some (word, next) ≡ word_from line at) where
+  field : (t : Bool) → fits most word ≡ t → ◌≡◌ {A = Option ℕ × ℕ} (choose t (Some (worth word)) None, next) (field_at line at most)
   unfolding field_at
-  field t v f h = choose_no _ _ _ _ (le-ltb _ _ within) ((λ i. record { value = valued i; next = at + l i + 1; ok = sym f i }) ∙ ap read (ap (λ (m : ℕ). take m (rest line at)) e ∙ ap (λ (s : List ℕ). take (before 32 s) s) (rest_is line at)))
-    where
-      valued : v ≡ choose (fits most word) (worth word) 0
-      valued = h ∙ ap (λ (b : Bool). choose b (worth word) 0) (sym f)
+  field t f = (λ i. (choose (sym f i) (Some (worth word)) None, next)) ∙ ap (field_of at most) there
 
-  -- what code was told of the word's worth, and what that makes of the field
-  number_told : (v : ℕ) → Worth.Number v ≡ worth_of word → (is_number word ≡ true) × (v ≡ worth word)
-  number_told v q = go (fits widest word) refl q
-    where
-      go : (b : Bool) → fits widest word ≡ b → Worth.Number v ≡ choose b (Worth.Number (worth word)) Worth.Other → (is_number word ≡ true) × (v ≡ worth word)
-      go true f r = (and_left (is_number word) (leb (worth word) widest) f, cc (chosen (Worth.Number (worth word)) Worth.Other))
-      go false f r = absurd (let z : ◌≡◌ {A = ℕ} 0 1 = cc (unchosen (Worth.Number (worth word)) Worth.Other) in omega arith)
+  pub field_fits : (v : ℕ) → Some v ≡ worth_of word → v ≤ most → ◌≡◌ {A = Option ℕ × ℕ} (Some v, next) (field_at line at most)
+  field_fits v q h =
+      let w = worth_some word v q in
+      (λ i. (Some (w.1 i), next)) ∙ (λ i. (sym (chosen (Some (worth word)) None) i, next)) ∙ field true (does_fit word most w.0 (omega arith))
 
-  other_told : Worth.Other ≡ worth_of word → fits widest word ≡ false
-  other_told q = go (fits widest word) refl q
-    where
-      go : (b : Bool) → fits widest word ≡ b → Worth.Other ≡ choose b (Worth.Number (worth word)) Worth.Other → fits widest word ≡ false
-      go true f r = absurd (let z : ◌≡◌ {A = ℕ} 0 1 = cc (chosen (Worth.Number (worth word)) Worth.Other) in omega arith)
-      go false f r = f
+  pub field_over : (v : ℕ) → Some v ≡ worth_of word → most < v → ◌≡◌ {A = Option ℕ × ℕ} (None, next) (field_at line at most)
+  field_over v q h =
+      let w = worth_some word v q in
+      (λ i. (sym (unchosen (Some (worth word)) None) i, next)) ∙ field false (too_much word most (length word) (omega arith) (omega arith))
 
-  pub field_fits : (r : Worth) (v : ℕ) → r ≡ worth_of word → r ≡ Worth.Number v → v ≤ most → record { value = v; next = at + n + 1; ok = true } ≡ field_at line at most
-  field_fits r v p q h =
-      let w = number_told v (sym q ∙ p) in
-      field true v (does_fit word most w.0 (omega arith)) (w.1 ∙ sym (chosen (worth word) 0))
+  pub field_other : None ≡ worth_of word → most ≤ widest → ◌≡◌ {A = Option ℕ × ℕ} (None, next) (field_at line at most)
+  field_other q h = (λ i. (sym (unchosen (Some (worth word)) None) i, next)) ∙ field false (unfit_less word most widest h (worth_none word q))
 
-  pub field_over : (r : Worth) (v : ℕ) → r ≡ worth_of word → r ≡ Worth.Number v → most < v → record { value = 0; next = at + n + 1; ok = false } ≡ field_at line at most
-  field_over r v p q h =
-      let w = number_told v (sym q ∙ p) in
-      field false 0 (too_much word most (length word) (omega arith) (omega arith)) (sym (unchosen (worth word) 0))
-
-  pub field_other : (r : Worth) → r ≡ worth_of word → r ≡ Worth.Other → most ≤ widest → record { value = 0; next = at + n + 1; ok = false } ≡ field_at line at most
-  field_other r p q h = field false 0 (unfit_less word most widest h (other_told (sym q ∙ p))) (sym (unchosen (worth word) 0))
+-- and past the line's end
+pub no_field : (line : List ℕ) (at most : ℕ) → None ≡ word_from line at → ◌≡◌ {A = Option ℕ × ℕ} (None, at) (field_at line at most)
+unfolding field_at
+no_field line at most e = ap (field_of at most) e

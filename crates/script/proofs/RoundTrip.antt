@@ -1,30 +1,23 @@
 -- Bytes that are spelled in hex read back as the same bytes.
-use Prim.Native.Nat.{ℕ, zero, suc, ◌+◌, ◌-◌, ◌/◌, ◌%◌, ◌≤◌, ◌<◌}
+use Prim.Native.Nat.{ℕ, zero, suc, ◌/◌, ◌%◌, ◌≤◌, ◌<◌}
 use native.Mathlib.Omega.{arith}
-use mathlib.Core.Path.{◌≡◌, refl, sym, ap, ◌∙◌}
+use mathlib.Core.Path.{◌≡◌, refl, ◌∙◌}
 use mathlib.Core.List.{List, [], ◌∷◌}
-use mathlib.Core.Bool.{Bool, true, false}
+use mathlib.Core.Bool.{true}
 use lib.ListN.{length, get_or}
 use lib.Seq.{ext_get_or}
 use lib.Dec.{ltb}
-use borrow.Author.Tests.{lt-ltb, le-leb, eq-eqb, ltb-true, ltb-false}
-use Rattle.ground.proofs.Choices.{choose_yes, choose_no}
+use borrow.Author.Tests.{lt-ltb, le-leb, eq-eqb}
+use Rattle.std.proofs.lemmas.Bool.Decides.{nat_tests}
+use Rattle.ground.specs.Choose.{choose}
 use Rattle.ground.proofs.Loops.{all_of}
 use Rattle.script.specs.Hex.{nibble, is_hex, pair_at, hex_bytes, glyph, spelled}
-use Rattle.script.proofs.Hex.{digit_nibble, upper_nibble, hex_length, hex_at, spelled_length, spelled_high, spelled_low}
+use Rattle.script.proofs.Hex.{nibble_is, hex_length, hex_at, spelled_length, spelled_high, spelled_low}
 
 -- a digit is worth the number that it was written for
 nibble_glyph : (n : ℕ) → n < 16 → nibble (glyph n) ≡ n
-unfolding glyph
-nibble_glyph n l = go (ltb n 10) refl
-  where
-    go : (b : Bool) → ltb n 10 ≡ b → nibble (glyph n) ≡ n
-    go true e =
-        let small = ltb-true n 10 e in
-        ap nibble (sym (choose_yes _ _ _ _ e refl)) ∙ sym (digit_nibble (48 + n) (omega arith) (omega arith)) ∙ (let z : 48 + n - 48 ≡ n = omega arith in z)
-    go false e =
-        let large = ltb-false n 10 e in
-        ap nibble (sym (choose_no _ _ _ _ e refl)) ∙ sym (upper_nibble (55 + n) (omega arith) (omega arith)) ∙ (let z : 55 + n - 55 ≡ n = omega arith in z)
+unfolding glyph choose
+nibble_glyph n l = rw nibble_is (grind (arith, nat_tests))
 
 module _ (b : List ℕ) (small : (i : ℕ) → get_or b i 0 < 256) where
   -- each byte is read from its two digits

@@ -1,9 +1,9 @@
 -- Bytes in hex (docs/REPLAY.md, "A script": an even number of hex digits, of either case, two for a byte).
-use Rattle.std.specs.Prelude.{ℕ, ◌+◌, ◌-◌, ◌*◌, ◌/◌, ◌%◌, min, Bool, true, ◌&&◌, List, [], ◌∷◌, map, length, get_or, drop, eqb, leb, ltb}
+use Rattle.std.specs.Prelude.{ℕ, ◌+◌, ◌-◌, ◌*◌, ◌/◌, ◌%◌, min, Bool, ◌&&◌, Option, Some, None, List, [], ◌∷◌, ◌++◌, map, length, take, get_or, drop, eqb, leb, ltb}
+use Rattle.std.specs.Fmt.{decimal}
 use Rattle.ground.specs.Choose.{choose}
 use Rattle.ground.specs.Below.{all, up_from}
 use Rattle.ground.specs.Bytes.{laid}
-use Rattle.script.specs.declared.Count.{Count}
 use Rattle.script.specs.Numbers.{between, is_digit}
 
 -- what a hex digit is worth, '0' to '9', 'A' to 'F', 'a' to 'f'; 16 where it is none (docs/REPLAY.md, "of either case")
@@ -26,17 +26,17 @@ pair_at word i = 16 * nibble (get_or word (2 * i) 0) + nibble (get_or word (2 * 
 unfoldable pub hex_bytes : List ℕ → List ℕ
 hex_bytes word = map (pair_at word) (up_from 0 (length word / 2))
 
--- what reading it answers, with room for so many bytes: how many there are, 0 where it is none (house)
-abbrev pub hex_count : ℕ → List ℕ → Count
-hex_count room word = record { value = choose (is_hex room word) (length word / 2) 0; ok = is_hex room word }
+-- what reading it answers, with room for so many bytes: how many there are (house)
+abbrev pub hex_count : ℕ → List ℕ → Option ℕ
+hex_count room word = choose (is_hex room word) (Some (length word / 2)) None
 
 -- what the room holds after: the bytes at its front, or what it held (01, "A refusal .. writes nowhere")
 abbrev pub hex_laid : List ℕ → List ℕ → List ℕ
 hex_laid word out = choose (is_hex (length out) word) (laid (hex_bytes word) out) out
 
 -- the bytes from a place of a line on: none where the line ends before it (docs/REPLAY.md, "without HEX the empty frame")
-abbrev pub bytes_count : ℕ → List ℕ → ℕ → Count
-bytes_count room line at = choose (ltb (length line) at) (record { value = 0; ok = true }) (hex_count room (drop at line))
+abbrev pub bytes_count : ℕ → List ℕ → ℕ → Option ℕ
+bytes_count room line at = choose (ltb (length line) at) (Some 0) (hex_count room (drop at line))
 
 -- what the room holds after reading them (docs/REPLAY.md, "without HEX the empty frame")
 abbrev pub bytes_laid : List ℕ → ℕ → List ℕ → List ℕ
@@ -54,3 +54,7 @@ spelled (b ∷ bytes) = glyph (b / 16) ∷ glyph (b % 16) ∷ spelled bytes
 -- how many of them a text of this length has room for (house)
 abbrev pub spellable : List ℕ → ℕ → ℕ
 spellable bytes room = min (length bytes) (room / 2)
+
+-- how many bytes there are, and the first 1,024 of them behind a space, where there are any (docs/REPLAY.md, "there is no HEX where COUNT is 0")
+abbrev pub counted : List ℕ → List ℕ
+counted bytes = decimal (length bytes) ++ choose (eqb (length bytes) 0) [] (32 ∷ spelled (take 1024 bytes))

@@ -1,10 +1,8 @@
 -- The numbers of a line (docs/REPLAY.md, "A script": decimal digits only, leading zeros allowed).
-use Rattle.std.specs.Prelude.{ℕ, zero, suc, ◌+◌, ◌-◌, ◌*◌, Bool, false, ◌&&◌, List, length, get_or, leb, ltb}
+use Rattle.std.specs.Prelude.{ℕ, zero, suc, ◌+◌, ◌-◌, ◌*◌, Bool, ◌&&◌, Option, Some, None, List, length, get_or, leb, ltb}
 use Rattle.ground.specs.Choose.{choose}
 use Rattle.ground.specs.Below.{all}
-use Rattle.script.specs.declared.Field.{Field}
-use Rattle.script.specs.declared.Worth.{Worth}
-use Rattle.script.specs.Words.{word_at}
+use Rattle.script.specs.Words.{word_from}
 
 -- a byte from one to another, both included (house)
 abbrev pub between : ℕ → ℕ → ℕ → Bool
@@ -36,15 +34,23 @@ abbrev pub widest : ℕ
 widest = 18446744073709551615
 
 -- what a word is worth, where it fits the widest field (house)
-abbrev pub worth_of : List ℕ → Worth
-worth_of word = choose (fits widest word) (Worth.Number (worth word)) Worth.Other
+abbrev pub worth_of : List ℕ → Option ℕ
+worth_of word = choose (fits widest word) (Some (worth word)) None
 
--- the field at a place: what its word is worth, or 0 where it does not fit; and where the next word begins, past the line's end where there is none (docs/REPLAY.md, "A script")
-unfoldable pub field_at : List ℕ → ℕ → ℕ → Field
-field_at line at most =
-    choose (ltb (length line) at) (record { value = 0; next = at; ok = false })
-    (record {
-      value = choose (fits most (word_at line at)) (worth (word_at line at)) 0;
-      next = at + length (word_at line at) + 1;
-      ok = fits most (word_at line at);
-    })
+-- what a word read at a place is as a field: what it is worth, where it fits, and where the next word begins (docs/REPLAY.md, "A script")
+abbrev pub field_of : ℕ → ℕ → Option (List ℕ × ℕ) → Option ℕ × ℕ
+field_of at most None = (None, at)
+field_of at most (Some word) = (choose (fits most word.0) (Some (worth word.0)) None, word.1)
+
+-- the field at a place: past the line's end there is none, and nothing is passed (docs/REPLAY.md, "A script")
+unfoldable pub field_at : List ℕ → ℕ → ℕ → Option ℕ × ℕ
+field_at line at most = field_of at most (word_from line at)
+
+-- the number that a field is, and where the next word begins (docs/REPLAY.md, "A script")
+abbrev pub number_in : ℕ → Option ℕ → Option (ℕ × ℕ)
+number_in next None = None
+number_in next (Some n) = Some (n, next)
+
+-- the number at a place; none past the line's end, or where its word does not fit (docs/REPLAY.md, "A script")
+abbrev pub number_at : List ℕ → ℕ → ℕ → Option (ℕ × ℕ)
+number_at line at most = number_in (field_at line at most).1 (field_at line at most).0

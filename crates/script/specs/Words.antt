@@ -1,5 +1,7 @@
 -- The words of a line (docs/REPLAY.md, "A script": one space between words).
-use Rattle.std.specs.Prelude.{ℕ, Bool, ◌&&◌, ◌||◌, List, length, get_or, take, drop, eqb}
+use Rattle.std.specs.Prelude.{◌≡◌, ℕ, ◌+◌, Bool, ◌&&◌, ◌||◌, Option, Some, None, List, length, get_or, take, drop, eqb, ltb}
+use Rattle.ground.specs.Choose.{choose}
+use Rattle.script.specs.declared.Line.{Line}
 use Rattle.ground.specs.Below.{all, up_from, first_or}
 
 -- the byte at a place is this one (house)
@@ -21,3 +23,21 @@ word_at line at = take (before 32 (drop at line)) (drop at line)
 -- two words are one: as long, and alike at each byte (house)
 unfoldable pub same : List ℕ → List ℕ → Bool
 same a b = eqb (length a) (length b) && all (λ i. eqb (get_or a i 0) (get_or b i 0)) (length b)
+
+-- that word, and where the next one begins, past the line's end where there is none; none past the line's end (docs/REPLAY.md, "A script")
+abbrev pub word_from : List ℕ → ℕ → Option (List ℕ × ℕ)
+word_from line at = choose (ltb (length line) at) None (Some (word_at line at, at + length (word_at line at) + 1))
+
+-- what a reading answers that gives a value and the place behind it (house)
+abbrev pub answered : {A : Type 0} → Option (A × ℕ) → Option A
+answered None = None
+answered (Some read) = Some read.0
+
+-- where it leaves the reader, who stays where nothing was read (house)
+abbrev pub left_at : {A : Type 0} → ℕ → Option (A × ℕ) → ℕ
+left_at at None = at
+left_at at (Some read) = read.1
+
+-- a line's reading of it: the value is the answer, the place is where the line then stands, and its text stays (house)
+abbrev pub Reads : {A : Type 0} → Option (A × ℕ) → Line → Line → Option A → Type 0
+Reads read old new answer = (answer ≡ answered read) × (new.at ≡ left_at old.at read) × (new.text ≡ old.text)

@@ -1,30 +1,26 @@
 -- What an answer in the exchange leaves, by what the join of who answered would leave.
 use Prim.Native.Nat.{ℕ, ◌≤◌, ◌<◌}
 use mathlib.Core.Path.{◌≡◌, refl, sym, ap, ◌∙◌}
+use mathlib.Core.Logic.{◌⊎◌, inl, inr}
 use mathlib.Core.Bool.{Bool, true, false}
-use mathlib.Core.List.{List, [], ◌∷◌}
+use mathlib.Core.List.{List, []}
 use lib.Dec.{ltb}
 use borrow.Author.Tests.{lt-ltb, le-ltb, eq-eqb, ne_eqb}
+use Rattle.std.specs.Prelude.{Ok}
 use Rattle.ground.specs.Choose.{choose}
+use Rattle.seek.specs.Parts.{mac_place, version_in, found_at, teller}
 use Rattle.ground.specs.Bytes.{laid}
 use Rattle.ground.proofs.Choices.{choose_yes, choose_no}
-use types.Run.{OneOf, miss}
-use denote.Enum.Declared.{tag_of}
-use Rattle.accept.specs.contracts.Reply as reply
-use Rattle.coordinator.specs.contracts.Part as parts
 use Rattle.accept.specs.declared.Reply.{Reply}
-use Rattle.accept.specs.declared.Reply.TheVariants.{Discovered, Present, Identified, Assigned, Refused}
+use Rattle.accept.specs.declared.Reply.TheVariants.{Identified, Assigned}
 use Rattle.board.specs.declared.Node.{Node}
 use Rattle.coordinator.specs.declared.Coordinator.{Coordinator}
 use Rattle.coordinator.specs.declared.Found.{Found}
-use Rattle.coordinator.specs.declared.Part.{Part}
-use Rattle.coordinator.specs.declared.Part.TheVariants.{Search, IdentifyDue, Identify, Present as Waited, AssignDue, Assign}
 use Rattle.coordinator.specs.Change.{finding, ended}
 use Rattle.steps.specs.declared.Stepped.{Stepped}
 use Rattle.steps.specs.After.{shown, shows, resting, Leaves}
 use Rattle.steps.specs.Hear.{hear_mac}
-use Rattle.steps.specs.Seek.{join_found, answered, outcome, settled, replied_as, quiet_in_seek}
-use Rattle.seek.specs.Parts.{mac_place, version_in, found_at, teller}
+use Rattle.steps.specs.Seek.{join_found, answered, outcome, settled, replied_as}
 
 module _ (c : Coordinator) (t : List Node) (f : Found) {n : ℕ} (e : n ≡ (join_found c t f).joined) where
   -- the discovery was answered: by one who could join, or by one who could not
@@ -51,19 +47,7 @@ leaves_answered r o c t f h = (h, ap (λ (b : List ℕ). laid b o) (sym (silent 
     silent true = refl
     silent false = refl
 
--- the replies that end the exchange: the other arm of a match on the reply
-pub settles : (x : Reply) (position : ℕ) (c : Coordinator) (t : List Node) (packet : ℕ) (p : List ℕ) (room : ℕ) → OneOf (2 ∷ 3 ∷ []) (tag_of reply.the_type x) → replied_as x position c t packet p room ≡ settled c t position (teller x c.found (found_at p (mac_place x) (version_in x packet c.found))) room
-settles Discovered position c t packet p room k = absurd (miss (2 ∷ 3 ∷ []) 0 tt k)
-settles Present position c t packet p room k = absurd (miss (2 ∷ 3 ∷ []) 1 tt k)
-settles Identified position c t packet p room k = refl
-settles Assigned position c t packet p room k = refl
-settles (Refused r) position c t packet p room k = absurd (miss (2 ∷ 3 ∷ []) 4 tt k)
-
--- the parts in which a quiet breaks the exchange off: the other arm of a match on the part
-pub breaks_off : (x : Part) (position : ℕ) (c : Coordinator) (t : List Node) → OneOf (0 ∷ 3 ∷ 5 ∷ []) (tag_of parts.the_type x) → quiet_in_seek x position c t ≡ resting (ended c) t 0 0
-breaks_off Search position c t k = refl
-breaks_off IdentifyDue position c t k = absurd (miss (0 ∷ 3 ∷ 5 ∷ []) 1 tt k)
-breaks_off Identify position c t k = absurd (miss (0 ∷ 3 ∷ 5 ∷ []) 2 tt k)
-breaks_off Waited position c t k = refl
-breaks_off AssignDue position c t k = absurd (miss (0 ∷ 3 ∷ 5 ∷ []) 4 tt k)
-breaks_off Assign position c t k = refl
+-- the replies that end the exchange
+pub settles : (x : Reply) (position : ℕ) (c : Coordinator) (t : List Node) (packet : ℕ) (p : List ℕ) (room : ℕ) → (x ≡ Identified) ⊎ (x ≡ Assigned) → replied_as (Ok x) position c t packet p room ≡ settled c t position (teller x c.found (found_at p (mac_place x) (version_in x packet c.found))) room
+settles x position c t packet p room (inl e) = rw e refl
+settles x position c t packet p room (inr e) = rw e refl

@@ -11,8 +11,8 @@ use Rattle.ground.specs.Choose.{choose}
 use Rattle.ground.proofs.Choices.{choose_yes, choose_no, yes, no, not_no}
 use Rattle.refusal.specs.Refusal.{ruled}
 use Rattle.refusal.specs.declared.Refusal.TheVariants.{Busy, Held, Full, NoRoom}
-use Rattle.frame.specs.declared.Writing.{Writing}
-use Rattle.frame.specs.declared.Writing.TheVariants.{Written}
+use Rattle.frame.specs.Frame.{Writing}
+use Rattle.std.specs.Prelude.{Ok}
 use Rattle.board.specs.declared.Node.{Node}
 use Rattle.message.specs.Message.{discovery_header, every_kind, Sends}
 use Rattle.coordinator.specs.declared.Coordinator.{Coordinator}
@@ -61,7 +61,7 @@ module _ (c : Coordinator) (t : List Node) (room : ℕ) where
   a_place e z = sym (choose_no _ _ _ _ (ne_eqb (free_place c t) 0 (λ f. z (e ∙ f))) refl)
 
 -- what is shown of the search, by the position that was found
-pub makes_searched : (p : List ℕ) (c : Coordinator) (t : List Node) {n : ℕ} (written : ℕ) → n ≡ free_place c t → {x : Change} → x ≡ changing (Searching n) 0 Nothing false (Seek n ToSearch) written 0 0 → applied x p c t ≡ shown_as (Written written) c t (searched c t)
+pub makes_searched : (p : List ℕ) (c : Coordinator) (t : List Node) {n : ℕ} (written : ℕ) → n ≡ free_place c t → {x : Change} → x ≡ changing (Searching n) 0 Nothing false (Seek n ToSearch) written 0 0 → applied x p c t ≡ shown_as (Ok written) c t (searched c t)
 makes_searched p c t {n} written place h =
     makes_none p c t Nothing (Seek n ToSearch) written 0 0 h ∙
     ap (λ (m : ℕ). leaving (searching c m) t (seeks m ToSearch) written 0 0) place

@@ -18,7 +18,7 @@ use Rattle.board.specs.Columns.{kinds_of, mac_of, macs_of, typed}
 use Rattle.board.proofs.Positions.{at_position, put_position, put_zero}
 use Rattle.board.proofs.LowestWanted.{some_highest}
 use Rattle.board.proofs.SameKinds.{kinds_free}
-use Rattle.board.proofs.Columns.{column_of}
+use Rattle.board.proofs.Column.{column_of}
 use Rattle.coordinator.specs.declared.State.{State}
 use Rattle.coordinator.specs.declared.Coordinator.{Coordinator}
 use Rattle.coordinator.specs.Change.{ended}

@@ -8,8 +8,8 @@ use lib.ListN.{length, set, length-set, length-map}
 use Rattle.ground.specs.Choose.{choose}
 use Rattle.refusal.specs.declared.Refusal.{Refusal}
 use Rattle.refusal.proofs.Rules.{Passed, each, by_rules}
-use Rattle.frame.specs.declared.Writing.{Writing}
-use Rattle.frame.specs.declared.Writing.TheVariants.{Written, Refused as NotWritten}
+use Rattle.frame.specs.Frame.{Writing}
+use Rattle.std.specs.Prelude.{Ok, Err}
 use Rattle.board.specs.declared.Node.{Node}
 use Rattle.board.specs.declared.Wanted.TheVariants.{Mac}
 use Rattle.board.specs.Table.{at}
@@ -18,7 +18,7 @@ use Rattle.board.specs.Index.{Numbered}
 use Rattle.board.specs.Change.{joined_node, heard}
 use Rattle.board.specs.Columns.{kind_of, kinds_of, typed, column_with}
 use Rattle.board.proofs.SameKinds.{kinds_index}
-use Rattle.board.proofs.Columns.{typed_kinds, same_kinds, column_put}
+use Rattle.board.proofs.Column.{typed_kinds, same_kinds, column_put}
 use Rattle.board.proofs.Changes.{put_length, put_alike}
 use Rattle.board.proofs.Numbered.{put_numbered, relisted_kinds, relisted_length, relisted_stored}
 use Rattle.setup.specs.Fitness.{FitTable}
@@ -80,8 +80,8 @@ numbered_join c t fit kind mac session version = by_rules (λ (a : After). Numbe
 
 -- what the caller is shown of the ACK, by what its writing gave and by what was shown of how the exchange ends
 abbrev ack_shown : Writing → Coordinator → List Node → Shown → Shown
-ack_shown (Written n) c t s = leaving s.coordinator s.nodes transmits n s.joined 0
-ack_shown (NotWritten q) c t s = shows (refused c t q)
+ack_shown (Ok n) c t s = leaving s.coordinator s.nodes transmits n s.joined 0
+ack_shown (Err q) c t s = shows (refused c t q)
 
 -- the change that ends the exchange, once its ACK is written
 abbrev pub acked : Change → ℕ → Change
@@ -107,8 +107,8 @@ module _ (c : Coordinator) (t : List Node) (position : ℕ) (f : Found) where
 
   -- what is shown of the ACK is what is shown of a step that has it as its bytes
   as_written : (w : Writing) → ack_shown w c t (shows (outcome c t position f)) ≡ shown_as w c t (acknowledged c.setup position f.version (outcome c t position f))
-  as_written (Written n) = refl
-  as_written (NotWritten q) = refl
+  as_written (Ok n) = refl
+  as_written (Err q) = refl
 
   module _ {s : Seen} (saw : Saw s c t) {kinds : List ℕ} (known : kinds ≡ kinds_of t) where
     -- the records after it are forty

@@ -8,7 +8,7 @@ use Rattle.coordinator.specs.declared.State.{State}
 use Rattle.change.specs.declared.Edit.{Edit}
 use Rattle.change.specs.declared.Edit.TheVariants.{Nothing, Heard}
 use Rattle.accept.specs.declared.Reply.{Reply}
-use Rattle.accept.specs.declared.Reply.TheVariants.{Discovered, Present, Identified, Assigned, Refused}
+use Rattle.accept.specs.declared.Reply.TheVariants.{Discovered, Present, Identified, Assigned}
 use Rattle.coordinator.specs.declared.Found.{Found}
 use Rattle.steps.specs.Seek.{told_version}
 
@@ -18,7 +18,6 @@ mac_place Discovered = 2
 mac_place Present = 1
 mac_place Identified = 1
 mac_place Assigned = 1
-mac_place (Refused r) = 1
 
 -- the version of who sent a reply: what the packet number of a discovery's response tells, else what was discovered's (02, C-15)
 abbrev pub version_in : Reply → ℕ → Found → ℕ
@@ -26,7 +25,6 @@ version_in Discovered packet found = told_version packet
 version_in Present packet found = found.version
 version_in Identified packet found = found.version
 version_in Assigned packet found = found.version
-version_in (Refused r) packet found = found.version
 
 -- who sent a reply, by the place of the MAC and the version: node type, MAC, session (003, Tables 58 and 62)
 abbrev pub found_at : List ℕ → ℕ → ℕ → Found
@@ -38,7 +36,6 @@ teller Discovered found told = found
 teller Present found told = found
 teller Identified found told = told
 teller Assigned found told = found
-teller (Refused r) found told = found
 
 -- a discovery is held back, by the state and the highest listed position (02, C-11)
 abbrev pub held_back_in : State → ℕ → Bool

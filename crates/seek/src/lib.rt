@@ -2,12 +2,11 @@
 // has due is the crate turn's to send.
 #![tactic(auto)]
 
-ghost use Rattle.std.specs.Prelude.{ℕ, ◌≤◌, ◌≡◌, List, length, drop};
+ghost use Rattle.std.specs.Prelude.{ℕ, ◌≤◌, ◌≡◌, List, length, drop, Ok};
 ghost use Rattle.refusal.specs.Refusal.{ruled};
 ghost use Rattle.frame.specs.Frame.{byte};
 ghost use Rattle.board.specs.declared.Node.{Node};
 ghost use Rattle.board.specs.Columns.{macs_of};
-ghost use Rattle.accept.specs.Replies.{told_reply};
 ghost use Rattle.coordinator.specs.declared.Coordinator.{Coordinator};
 ghost use Rattle.coordinator.specs.State.{state_of};
 ghost use Rattle.look.specs.Seen.{OfTypes, OfBoards};
@@ -19,11 +18,12 @@ ghost use Rattle.change.specs.Decides.{Makes, Decides};
 ghost use Rattle.seek.specs.Parts.{mac_place, version_in, found_at, teller, held_back_in, hearing};
 
 use accept::Reply;
-use board::Wanted;
+use board::{Columns, Wanted};
 use change::{Change, Edit, Move};
 use coordinator::{Found, Part, Phase, State};
-use frame::{Header, Writing};
+use frame::Header;
 use look::Seen;
+use message::Addressee;
 use refusal::Refusal;
 use steps::{Answer, Outcome, Seek};
 
@@ -32,25 +32,25 @@ use steps::{Answer, Outcome, Seek};
 fn is_held_back(state: State, top: usize) -> bool
     ensures { result ≡ held_back_in state top }
 {
-    (state.held == 1) | ((state.searched == 1) & (0 < top))
+    state.held == 1 || (state.searched == 1 && 0 < top)
 }
 
-// Writes Node Discovery with a position at stake, 16 where there is none, and waits for whoever has no address.
+// A refusal is a change here as in the crate receive, where a `Result<Change, Refusal>` was slower.
+
+// Writes Node Discovery with a position at stake, and waits for whoever has no address; `Full` where no position is free.
 fn search(seen: Seen, kinds: &[u8; 40], out: &mut [u8]) -> Change
     ensures { Decides seen (OfTypes kinds.now) (λ c t. ruled (drop 3 (discover_rules c t (length out.old))) (refused c t) (searched c t)) result out.old out.new }
 {
-    let setup = seen.setup;
-    let position = board::lowest(kinds, Wanted::Free, setup.k);
+    let position = board::lowest(kinds, Wanted::Free, seen.setup.k);
     if position == 0 {
         return change::refusing(Refusal::Full);
     }
     match message::write_discovery(out) {
-        Writing::Written(n) => {
-            let next = Move::Searching(position);
+        Ok(written) => {
             let answer = Answer::Seek(position, Seek::Search);
-            change::changing(next, 0, Edit::Nothing, answer, n)
+            change::changing(Move::Searching(position), 0, Edit::Nothing, answer, written)
         }
-        Writing::Refused(refusal) => change::refusing(refusal),
+        Err(refusal) => change::refusing(refusal),
     }
 }
 
@@ -72,10 +72,7 @@ pub fn discover(seen: Seen, kinds: &[u8; 40], out: &mut [u8]) -> Change
 fn first_byte(payload: &[u8]) -> u8
     ensures { result ≡ byte payload.now 0 }
 {
-    if payload.len() == 0 {
-        return 0;
-    }
-    payload[0]
+    payload.first().copied().unwrap_or(0)
 }
 
 // Where the MAC stands in the payload of a reply: a discovery's response has a reserved byte before it.
@@ -107,30 +104,23 @@ fn found_at(payload: &[u8], at: usize, version: u8) -> Found
 {
     Found {
         kind: first_byte(payload),
-        version: version,
+        version,
         mac: word::word_at(payload, at),
         session: word::word_at(payload, at + 8),
     }
 }
 
 // The join of a board, on the coordinator at rest.
-fn join_found(
-    seen: Seen,
-    kinds: &[u8; 40],
-    versions: &[u8; 40],
-    macs: &[u64; 40],
-    found: Found,
-) -> Change
-    ensures { Makes seen (OfBoards kinds.now versions.now macs.now) (λ c t. join_found c t found) result }
+fn join_found(seen: Seen, columns: &Columns, found: Found) -> Change
+    ensures { Makes seen (OfBoards columns.now) (λ c t. join_found c t found) result }
 {
-    let state = seen.state;
-    let mut rested = seen;
-    rested.state = coordinator::ended(state);
+    let rested = Seen {
+        state: coordinator::ended(seen.state),
+        ..seen
+    };
     let joined = join::join(
         rested,
-        kinds,
-        versions,
-        macs,
+        columns,
         found.kind,
         found.mac,
         found.session,
@@ -141,16 +131,10 @@ fn join_found(
 
 // The discovery was answered. Where who answered could join, the position that it would take is at stake; else the
 // exchange breaks off.
-fn answered(
-    seen: Seen,
-    kinds: &[u8; 40],
-    versions: &[u8; 40],
-    macs: &[u64; 40],
-    found: Found,
-) -> Change
-    ensures { Makes seen (OfBoards kinds.now versions.now macs.now) (λ c t. answered c t found) result }
+fn answered(seen: Seen, columns: &Columns, found: Found) -> Change
+    ensures { Makes seen (OfBoards columns.now) (λ c t. answered c t found) result }
 {
-    let joined = join_found(seen, kinds, versions, macs, found);
+    let joined = join_found(seen, columns, found);
     let position = joined.outcome.joined;
     if 0 < position {
         let next = Move::Finding(found, position);
@@ -160,6 +144,7 @@ fn answered(
 }
 
 // What a frame of this MAC from a position's address is to the record there: the board is heard where the MAC is its own.
+#[tactic(auto, unfolding(ground::specs::Choose::choose))]
 fn hearing(macs: &[u64; 40], position: usize, mac: u64) -> Edit
     ensures { result ≡ hearing macs.now position mac }
 {
@@ -175,91 +160,76 @@ fn present(seen: Seen, macs: &[u64; 40], position: usize, mac: u64) -> Change
     ensures { Makes seen (λ c t. macs.now ≡ macs_of t) (λ c t. present c t position mac) result }
 {
     let phase = Phase::Seeking {
-        position: position,
+        position,
         part: Part::Present,
     };
-    let next = Move::To(phase);
     let edit = hearing(macs, position, mac);
     let answer = Answer::Seek(position, Seek::Identify);
-    change::changing(next, position, edit, answer, 0)
+    change::changing(Move::To(phase), position, edit, answer, 0)
 }
 
 // How the exchange ends: who answered joins, where it takes the position at stake; else nobody does.
-fn outcome(
-    seen: Seen,
-    kinds: &[u8; 40],
-    versions: &[u8; 40],
-    macs: &[u64; 40],
-    position: usize,
-    found: Found,
-) -> Change
-    ensures { Makes seen (OfBoards kinds.now versions.now macs.now) (λ c t. outcome c t position found) result }
+fn outcome(seen: Seen, columns: &Columns, position: usize, found: Found) -> Change
+    ensures { Makes seen (OfBoards columns.now) (λ c t. outcome c t position found) result }
 {
-    let joined = join_found(seen, kinds, versions, macs, found);
+    let joined = join_found(seen, columns, found);
     if joined.outcome.joined == position {
         return joined;
     }
-    let edit = hearing(macs, position, found.mac);
+    let edit = hearing(&columns.macs, position, found.mac);
     change::ending(change::resting(Move::Stay, position, edit, false, 0, 0))
 }
 
 // Writes the ACK to a response that ends the exchange, with the index of the records that it leaves: it is counted among
 // the types after it, since those records are not there yet. Where there is room for the ACK the exchange has ended.
-fn settled(
-    seen: Seen,
-    kinds: &[u8; 40],
-    versions: &[u8; 40],
-    macs: &[u64; 40],
-    position: usize,
-    found: Found,
-    out: &mut [u8],
-) -> Change
-    ensures { Decides seen (OfBoards kinds.now versions.now macs.now) (λ c t. settled c t position found (length out.old)) result out.old out.new }
+fn settled(seen: Seen, columns: &Columns, position: usize, found: Found, out: &mut [u8]) -> Change
+    ensures { Decides seen (OfBoards columns.now) (λ c t. settled c t position found (length out.old)) result out.old out.new }
 {
-    let mut after = outcome(seen, kinds, versions, macs, position, found);
-    let types = board::with_byte(kinds, after.outcome.joined, found.kind);
-    let index = board::index_of(&types, position);
-    let number = index as u8;
-    match message::write_signed(seen.setup, position, found.version, number, 6, out) {
-        Writing::Written(n) => {
-            let told = Outcome {
+    let after = outcome(seen, columns, position, found);
+    let joined = after.outcome.joined;
+    let types = board::with_byte(&columns.kinds, joined, found.kind);
+    let to = Addressee {
+        board: position,
+        version: found.version,
+        index: board::index_of(&types, position) as u8,
+    };
+    match message::write_signed(seen.setup, to, 6, out) {
+        Ok(written) => Change {
+            outcome: Outcome {
                 answer: Answer::Transmit,
-                written: n,
-                joined: after.outcome.joined,
+                written,
+                joined,
                 dropped: 0,
-            };
-            after.outcome = told;
-            after
-        }
-        Writing::Refused(refusal) => change::refusing(refusal),
+            },
+            ..after
+        },
+        Err(refusal) => change::refusing(refusal),
     }
 }
 
-// What a frame is to the part that the exchange is in.
-fn reply_in(part: Part, position: usize, seen: Seen, header: Header, payload: &[u8]) -> Reply
-    ensures { (c : Coordinator) → seen.setup ≡ c.setup → seen.state ≡ state_of c → told_reply result ≡ told_reply (reply_in part position c header payload.now) }
+// What a frame is to the part that the exchange is in, or why it is not taken.
+fn reply_in(
+    part: Part,
+    position: usize,
+    seen: Seen,
+    header: Header,
+    payload: &[u8],
+) -> Result<Reply, Refusal>
+    ensures { (c : Coordinator) → seen.setup ≡ c.setup → seen.state ≡ state_of c → result ≡ reply_in part position c header payload.now }
 {
     let message = header.message;
     match part {
         Part::Search => accept::in_search(message, payload),
-        Part::IdentifyDue => Reply::Refused(Refusal::NotAwaited),
         Part::Identify => accept::in_identify(message, payload, false),
         Part::Present => accept::in_identify(message, payload, true),
-        Part::AssignDue => Reply::Refused(Refusal::NotAwaited),
         Part::Assign => {
-            let setup = seen.setup;
-            let state = seen.state;
-            let found = state.found;
-            let address = setup::address_at(setup, position);
-            let same = accept::is_assignment(
-                payload,
-                address,
-                setup::subnet_of(setup, found.version),
-                found.mac,
-                found.session,
-            );
+            let found = seen.state.found;
+            let address = setup::address_at(seen.setup, position);
+            let subnet = setup::subnet_of(seen.setup, found.version);
+            let same = accept::is_assignment(payload, address, subnet, found.mac, found.session);
             accept::in_assign(message, same)
         }
+        Part::IdentifyDue | Part::AssignDue => Err(Refusal::NotAwaited),
     }
 }
 
@@ -279,24 +249,21 @@ fn replied(
     reply: Reply,
     position: usize,
     seen: Seen,
-    kinds: &[u8; 40],
-    versions: &[u8; 40],
-    macs: &[u64; 40],
+    columns: &Columns,
     packet: u8,
     payload: &[u8],
     out: &mut [u8],
 ) -> Change
-    ensures { Decides seen (OfBoards kinds.now versions.now macs.now) (λ c t. replied_as reply position c t packet payload.now (length out.old)) result out.old out.new }
+    ensures { Decides seen (OfBoards columns.now) (λ c t. replied_as (Ok reply) position c t packet payload.now (length out.old)) result out.old out.new }
 {
     let version = version_in(reply, packet, seen.state.found);
     let told = found_at(payload, mac_place(reply), version);
     match reply {
-        Reply::Discovered => answered(seen, kinds, versions, macs, told),
-        Reply::Present => present(seen, macs, position, told.mac),
-        Reply::Refused(refusal) => change::refusing(refusal),
-        _ => {
+        Reply::Discovered => answered(seen, columns, told),
+        Reply::Present => present(seen, &columns.macs, position, told.mac),
+        Reply::Identified | Reply::Assigned => {
             let found = teller(reply, seen.state.found, told);
-            settled(seen, kinds, versions, macs, position, found, out)
+            settled(seen, columns, position, found, out)
         }
     }
 }
@@ -306,27 +273,17 @@ pub fn sought(
     part: Part,
     position: usize,
     seen: Seen,
-    kinds: &[u8; 40],
-    versions: &[u8; 40],
-    macs: &[u64; 40],
+    columns: &Columns,
     header: Header,
     payload: &[u8],
     out: &mut [u8],
 ) -> Change
-    ensures { Decides seen (OfBoards kinds.now versions.now macs.now) (λ c t. sought_in part position c t header payload.now (length out.old)) result out.old out.new }
+    ensures { Decides seen (OfBoards columns.now) (λ c t. sought_in part position c t header payload.now (length out.old)) result out.old out.new }
 {
-    let reply = reply_in(part, position, seen, header, payload);
-    replied(
-        reply,
-        position,
-        seen,
-        kinds,
-        versions,
-        macs,
-        header.packet,
-        payload,
-        out,
-    )
+    match reply_in(part, position, seen, header, payload) {
+        Ok(reply) => replied(reply, position, seen, columns, header.packet, payload, out),
+        Err(refusal) => change::refusing(refusal),
+    }
 }
 
 // Quiet in the exchange: where nobody answered at the address at stake it is free, and is to be assigned; else the
@@ -335,16 +292,16 @@ pub fn quieted(part: Part, position: usize) -> Change
     ensures { (p : List ℕ) (c : Coordinator) (t : List Node) → applied result p c t ≡ shows (quiet_in_seek part position c t) }
 {
     match part {
-        Part::IdentifyDue => change::refusing(Refusal::NotWaiting),
-        Part::AssignDue => change::refusing(Refusal::NotWaiting),
+        Part::IdentifyDue | Part::AssignDue => change::refusing(Refusal::NotWaiting),
         Part::Identify => {
             let phase = Phase::Seeking {
-                position: position,
+                position,
                 part: Part::AssignDue,
             };
-            let next = Move::To(phase);
-            change::resting(next, 0, Edit::Nothing, false, 0, 0)
+            change::resting(Move::To(phase), 0, Edit::Nothing, false, 0, 0)
         }
-        _ => change::ending(change::resting(Move::Stay, 0, Edit::Nothing, false, 0, 0)),
+        Part::Search | Part::Present | Part::Assign => {
+            change::ending(change::resting(Move::Stay, 0, Edit::Nothing, false, 0, 0))
+        }
     }
 }

@@ -26,3 +26,6 @@ address_past s p m n e l h = get_or-eq_default (0 ∷ take s.k s.pool) 0 few
   where
     few : length (0 ∷ take s.k s.pool) ≤ p
     few = omega (arith, length-take s.k s.pool)
+
+-- what closes a return of `address_at`
+pub ruleset addressing = (address_in, address_zero, address_past)

@@ -24,7 +24,7 @@ use Rattle.board.specs.Columns.{stored_index, stored_indexes, kinds_of, typed_as
 use Rattle.board.proofs.Positions.{Outside, at_outside, position_case}
 use Rattle.board.proofs.Index.{index_nobody}
 use Rattle.board.proofs.SameKinds.{kinds_index}
-use Rattle.board.proofs.Columns.{column_next, typed_kinds, typed_position, index_here}
+use Rattle.board.proofs.Column.{column_next, typed_kinds, typed_position, index_here}
 use Rattle.setup.specs.Fit.{numbered_at, are_numbered, tallied_one}
 
 pub numbered_told : (t : List Node) → length t ≡ 40 → are_numbered t ≡ true → Numbered t

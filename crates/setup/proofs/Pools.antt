@@ -7,10 +7,11 @@ use mathlib.Core.Path.{◌≡◌, refl, sym, ap, ◌∙◌}
 use mathlib.Core.Bool.{Bool, true, false, ◌&&◌, false≢true}
 use mathlib.Core.List.{List}
 use lib.Dec.{leb, ltb}
-use lib.ListN.{get_or}
+use lib.ListN.{get_or, length, take}
+use Rattle.std.proofs.lemmas.List.{get_or-take, length-take-le}
 use borrow.Author.Tests.{ltb-true, leb-true, lt-ltb, le-leb}
 use Rattle.ground.specs.Below.{up_from, all}
-use Rattle.ground.proofs.Choices.{and_left, and_right, both, never, not_right}
+use Rattle.ground.proofs.Choices.{and_left, and_right, both, never, not_right, alike}
 use Rattle.ground.proofs.Loops.{all_at, all_of}
 use Rattle.board.specs.Node.{is_mac}
 use Rattle.setup.specs.declared.Setup.{Setup}
@@ -82,6 +83,44 @@ pool_passes k a f = both _ _ (both _ _ (lt-ltb 0 k f.from) (le-leb k 40 f.up_to)
 
     next : (i : ℕ) → i < k - 1 → ltb (get_or a i 0) (get_or a (i + 1) 0) ≡ true
     next i l = lt-ltb (get_or a i 0) (get_or a (i + 1) 0) (f.rising i (i + 1) (omega arith) (omega arith))
+
+-- a list that has the same first k is a pool too
+pub same_pool : (k : ℕ) (a b : List ℕ) → ((i : ℕ) → i < k → get_or b i 0 ≡ get_or a i 0) → Pool k a → Pool k b
+same_pool k a b same f =
+    record {
+      from = f.from;
+      up_to = f.up_to;
+      rising = λ i j l m. rw (same i (omega (arith, l, m)), same j m) (f.rising i j l m);
+      low = λ i l. rw (same i l) (f.low i l);
+      high = λ i l. rw (same i l) (f.high i l);
+    }
+
+-- what the tests of the code say, one by one
+module _ (k : ℕ) (a : List ℕ) where
+  pub none_pool : k ≤ 0 → are_pool k a ≡ false
+  none_pool h = never _ (λ e. omega (arith, (pool_told k a e).from))
+
+  pub long_pool : 40 < k → are_pool k a ≡ false
+  long_pool h = never _ (λ e. omega (arith, (pool_told k a e).up_to))
+
+  pub low_pool : get_or a 0 0 ≤ 0 → are_pool k a ≡ false
+  low_pool h = never _ (λ e. omega (arith, (pool_told k a e).low 0 (pool_told k a e).from))
+
+  pub high_pool : 254 < get_or a (k - 1) 0 → are_pool k a ≡ false
+  high_pool h = never _ (λ e. omega (arith, (pool_told k a e).high (k - 1) (omega (arith, (pool_told k a e).from))))
+
+  pub risen_pool : 0 < k → k ≤ 40 → 0 < get_or a 0 0 → get_or a (k - 1) 0 ≤ 254 → are_pool k a ≡ are_rising a (k - 1)
+  unfolding are_pool
+  risen_pool some few low high = rw (lt-ltb 0 k some, le-leb k 40 few) (sym (ends_tell k a some) ∙ rw (lt-ltb 0 _ low, le-leb _ 254 high) refl)
+
+  -- the first k of a list are a pool where, cut off, they are one
+  pub front_pool : k ≤ length a → are_pool (length (take k a)) (take k a) ≡ are_pool k a
+  front_pool h = rw (length-take-le k a h) (alike (are_pool k (take k a)) (are_pool k a)
+      (λ e. pool_passes k a (same_pool k (take k a) a (λ i l. sym (get_or-take k a i 0 l)) (pool_told k (take k a) e)))
+      (λ e. pool_passes k (take k a) (same_pool k a (take k a) (λ i l. get_or-take k a i 0 l) (pool_told k a e))))
+
+-- what closes a return of the tests of a pool, and of a setup
+pub ruleset pool_tests = (none_pool, long_pool, low_pool, high_pool, risen_pool, front_pool)
 
 pub mac_told : (m : ℕ) → is_mac m ≡ true → Mac m
 mac_told m h = record { from = ltb-true 0 m (and_left (ltb 0 m) (ltb m (2 ^ 56)) h); below = ltb-true m (2 ^ 56) (and_right (ltb 0 m) (ltb m (2 ^ 56)) h) }

@@ -20,7 +20,7 @@ use Rattle.board.specs.Columns.{mac_of, macs_of, kinds_of, stored_index, stored_
 use Rattle.board.specs.Types.{too_many_types}
 use Rattle.board.proofs.Versions.{version_told, version_passes}
 use Rattle.board.proofs.Types.{rule_told, rule_passes}
-use Rattle.board.proofs.Columns.{column_next}
+use Rattle.board.proofs.Column.{column_next}
 use Rattle.board.proofs.Index.{index_nobody}
 use Rattle.board.proofs.LowestWanted.{none_above}
 use Rattle.board.proofs.Positions.{Outside, at_position, at_next, at_outside, position_case}

@@ -5,8 +5,8 @@ use mathlib.Core.Bool.{Bool}
 use mathlib.Core.List.{List}
 use base.Fml.{Lft}
 use Rattle.refusal.proofs.Numbers.{same_refused, gives_not}
-use Rattle.setup.specs.declared.Judged.{Judged}
-use Rattle.setup.specs.declared.Judged.TheVariants.{Fine, Refused}
+use Rattle.std.specs.Prelude.{Result, Ok, Err}
+use Rattle.refusal.specs.declared.Refusal.{Refusal}
 use Rattle.setup.specs.Setup.{told_of}
 use Rattle.setup.proofs.is_mac.Reads as is-mac
 use Rattle.setup.proofs.is_pool.Reads as is-pool
@@ -39,15 +39,15 @@ unique_setup_fits a s t r q p p' = p ∙ sym p'
 pub unique_record_fits : (a s t : _) (r q : Bool) → record-fits.Post tt a r s → record-fits.Post tt a q t → r ≡ q
 unique_record_fits a s t r q p p' = p ∙ sym p'
 
-pub unique_boards_fit : (κs : Lft × (Lft × (Lft × Unit {0}))) (a s t : _) (r q : Bool) → boards-fit.Post κs a r s → boards-fit.Post κs a q t → r ≡ q
+pub unique_boards_fit : (κs : Lft × Unit {0}) (a s t : _) (r q : Bool) → boards-fit.Post κs a r s → boards-fit.Post κs a q t → r ≡ q
 unique_boards_fit κs a s t r q p p' = p ∙ sym p'
 
 -- two judgements that say the same are the same
-pub same_told : (r q : Judged) → told_of r ≡ told_of q → r ≡ q
-same_told Fine Fine h = refl
-same_told Fine (Refused q) h = absurd (gives_not _ q h)
-same_told (Refused r) Fine h = absurd (gives_not _ r (sym h))
-same_told (Refused r) (Refused q) h = ap Refused (same_refused r q h)
+pub same_told : (r q : Result (Unit {0}) Refusal) → told_of r ≡ told_of q → r ≡ q
+same_told (Ok _) (Ok _) h = refl
+same_told (Ok _) (Err q) h = absurd (gives_not _ q h)
+same_told (Err r) (Ok _) h = absurd (gives_not _ r (sym h))
+same_told (Err r) (Err q) h = ap Err (same_refused r q h)
 
-pub unique_judge_setup : (κs : Lft × Unit {0}) (a s t : _) (r q : Judged) → judge-setup.Post κs a r s → judge-setup.Post κs a q t → r ≡ q
+pub unique_judge_setup : (κs : Lft × Unit {0}) (a s t : _) (r q : Result (Unit {0}) Refusal) → judge-setup.Post κs a r s → judge-setup.Post κs a q t → r ≡ q
 unique_judge_setup κs a s t r q p p' = same_told r q (p ∙ sym p')

@@ -1,5 +1,5 @@
 -- The panel's setup (01, "Boards and positions") and what its step refuses.
-use Rattle.std.specs.Prelude.{ℕ, ◌+◌, ◌-◌, Bool, ◌&&◌, not, List, [], ◌∷◌, get_or, length, take, leb, ltb}
+use Rattle.std.specs.Prelude.{ℕ, ◌+◌, ◌-◌, Bool, ◌&&◌, not, List, [], ◌∷◌, get_or, length, take, leb, ltb, Result, Ok, Err}
 use Rattle.ground.specs.Choose.{choose}
 use Rattle.ground.specs.Below.{all, up_from}
 use Rattle.refusal.specs.declared.Refusal.{Refusal}
@@ -7,8 +7,6 @@ use Rattle.refusal.specs.declared.Refusal.TheVariants.{BadPool, BadMac}
 use Rattle.refusal.specs.Refusal.{Told, refuses, gives}
 use Rattle.board.specs.Node.{is_mac, is_old}
 use Rattle.setup.specs.declared.Setup.{Setup}
-use Rattle.setup.specs.declared.Judged.{Judged}
-use Rattle.setup.specs.declared.Judged.TheVariants.{Fine, Refused}
 
 -- the first n are addresses, each 1 to 254 (01, "each 1 to 254")
 abbrev pub are_addresses : List ℕ → ℕ → Bool
@@ -51,6 +49,6 @@ abbrev pub setup_rules : List ℕ → ℕ → List (Bool × Refusal)
 setup_rules addresses mac = (not (is_pool addresses), BadPool) ∷ (not (is_mac mac), BadMac) ∷ []
 
 -- what a judgement says: number 0, or the refusal's
-abbrev pub told_of : Judged → Told
-told_of Fine = gives []
-told_of (Refused r) = refuses r
+abbrev pub told_of : Result (Unit {0}) Refusal → Told
+told_of (Ok _) = gives []
+told_of (Err r) = refuses r

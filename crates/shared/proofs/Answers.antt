@@ -1,8 +1,7 @@
 -- The answer's payload: what is said of it, with so much room, and what is laid.
 use Prim.Native.Nat.{ℕ, ◌+◌, ◌≤◌, ◌<◌}
 use native.Mathlib.Omega.{arith}
-use mathlib.Core.Path.{◌≡◌, refl, sym, ap, ◌∙◌}
-use mathlib.Core.Bool.{false}
+use mathlib.Core.Path.{◌≡◌, refl, ap, ◌∙◌}
 use mathlib.Core.List.{List, [], ◌∷◌}
 use lib.ListN.{length}
 use lib.Seq.{paste}
@@ -10,16 +9,15 @@ use borrow.Author.Tests.{lt-ltb, le-ltb}
 use Rattle.ground.specs.Bytes.{laid, fitting}
 use Rattle.ground.proofs.Choices.{choose_yes, choose_no}
 use Rattle.ground.proofs.Laid.{laid_next}
-use Rattle.refusal.specs.Refusal.{Told, refuses, gives}
+use Rattle.refusal.specs.Refusal.{Told, refuses, gives, ruled}
 use Rattle.refusal.specs.declared.Refusal.{Refusal}
 use Rattle.refusal.specs.declared.Refusal.TheVariants.{NoRoom}
-use Rattle.refusal.proofs.Rules.{Passed, passed}
-use Rattle.shared.specs.Image.{record_at, slot_of, has}
+use Rattle.std.specs.Prelude.{Option, Ok, Err}
 use Rattle.shared.specs.declared.Found.{Found}
-use Rattle.shared.specs.declared.Found.TheVariants.{Refused}
-use Rattle.shared.specs.Holder.{both_rules, serving, holding, told_found}
-use Rattle.shared.specs.Answer.{fitted, fitted_bytes, answer_of, answer_payload, answering, answer_bytes}
-use Rattle.shared.proofs.Looking.{Serves, served_record, found_refused}
+use Rattle.shared.specs.Holder.{both_rules}
+use Rattle.shared.specs.Looking.{served}
+use Rattle.shared.specs.Answer.{fitted, fitted_bytes, answer_payload, answering, answer_bytes}
+use Rattle.shared.proofs.Looking.{through, payload_part, payload_is}
 
 -- a payload that fits is laid whole
 pub fits_in : (payload o v : List ℕ) (n : ℕ) → n ≡ length payload → length payload ≤ length o → v ≡ laid payload o → (gives (n ∷ []) ≡ fitted payload (length o)) × (v ≡ laid (fitted_bytes payload (length o)) o)
@@ -38,25 +36,14 @@ pub record_laid : (sector : ℕ) (bytes o u v : List ℕ) → 1 + length bytes �
 record_laid sector bytes o u v h first next =
     laid_next (sector ∷ []) bytes o u v 1 refl h (laid_next [] (sector ∷ []) o o u 0 refl (omega (arith, h)) refl first) next
 
-module _ (n f : List ℕ) (sector : ℕ) where
-  -- where both images have their size, the payload decides
-  pub answered : (payload o v : List ℕ) {t : Told} → Passed (both_rules n f) → answer_payload n f sector ≡ payload → (t ≡ fitted payload (length o)) × (v ≡ laid (fitted_bytes payload (length o)) o) → (t ≡ answering n f sector (length o)) × (v ≡ laid (answer_bytes n f sector (length o)) o)
-  unfolding answering answer_bytes
-  answered payload o v ok e h =
-      (h.0 ∙ ap (λ (p : List ℕ). fitted p (length o)) (sym e) ∙ sym (passed (both_rules n f) refuses _ ok), h.1 ∙ ap (λ (p : List ℕ). laid p o) (ap (λ (p : List ℕ). fitted_bytes p (length o)) (sym e) ∙ sym (passed (both_rules n f) (λ r. []) _ ok)))
+-- what a writer of this payload says and lays is what is said and laid of the answer, where it is the one that is served
+pub answered : (n f : List ℕ) (sector : ℕ) (x : Option (Found × List ℕ)) (o v : List ℕ) {t : Told} → Ok x ≡ served n f sector → (t ≡ fitted (payload_part sector x) (length o)) × (v ≡ laid (fitted_bytes (payload_part sector x) (length o)) o) → (t ≡ answering n f sector (length o)) × (v ≡ laid (answer_bytes n f sector (length o)) o)
+unfolding answering answer_bytes
+answered n f sector x o v e h =
+    (h.0 ∙ through n f sector refuses (λ y. fitted (payload_part sector y) (length o)) _ e ∙ ap (λ (p : List ℕ). ruled (both_rules n f) refuses (fitted p (length o))) (payload_is n f sector), h.1 ∙ ap (λ (b : List ℕ). laid b o) (through n f sector (λ q. []) (λ y. fitted_bytes (payload_part sector y) (length o)) _ e ∙ ap (λ (p : List ℕ). ruled (both_rules n f) (λ q. []) (fitted_bytes p (length o))) (payload_is n f sector)))
 
-  -- it is sector and record of the image that serves the sector
-  pub served_answer : (image : List ℕ) (slot : ℕ) → Serves n f sector image slot → answer_payload n f sector ≡ sector ∷ record_at image slot
-  unfolding answer_of
-  served_answer image slot s =
-      sym (choose_yes _ _ _ _ (ap (λ (i : List ℕ). has i sector) s.serves ∙ lt-ltb 0 (slot_of image sector) (omega (arith, s.holds.from, s.holds.is))) refl) ∙ ap (λ (r : List ℕ). sector ∷ r) (served_record n f sector image slot s)
-
-  -- or nothing
-  pub no_answer : has (serving n f sector) sector ≡ false → answer_payload n f sector ≡ []
-  unfolding answer_of
-  no_answer h = sym (choose_no _ _ _ _ h refl)
-
-  -- where they do not, nothing is laid
-  pub answer_refused : (q : Refusal) (o : List ℕ) {r : Found} → r ≡ Refused q → told_found r ≡ holding n f sector → (refuses q ≡ answering n f sector (length o)) × (o ≡ laid (answer_bytes n f sector (length o)) o)
-  unfolding answering answer_bytes
-  answer_refused q o e t = (sym (found_refused n f sector refuses _ q e t), ap (λ (p : List ℕ). laid p o) (sym (found_refused n f sector (λ r. []) _ q e t)))
+-- and a refusal is the same
+pub answer_refused : (n f : List ℕ) (sector : ℕ) (q : Refusal) (o : List ℕ) → Err q ≡ served n f sector → (refuses q ≡ answering n f sector (length o)) × (o ≡ laid (answer_bytes n f sector (length o)) o)
+unfolding answering answer_bytes
+answer_refused n f sector q o e =
+    (through n f sector refuses (λ y. fitted (answer_payload n f sector) (length o)) _ e, ap (λ (b : List ℕ). laid b o) (through n f sector (λ q. []) (λ y. fitted_bytes (answer_payload n f sector) (length o)) _ e))

@@ -16,10 +16,10 @@ use Rattle.ground.proofs.Laid.{paste_before}
 use Rattle.shared.specs.Image.{image_long, slots, start_of, holds, is_free, slot_of, free_slot, has}
 use Rattle.refusal.specs.Refusal.{gives}
 use Rattle.refusal.proofs.Rules.{Passed, gave}
-use Rattle.shared.specs.declared.Storing.{Storing}
-use Rattle.shared.specs.declared.Storing.TheVariants.{Stored}
-use Rattle.shared.specs.Store.{taken, store_rules, storing, slot_bytes, put_in, told_stored}
-use Rattle.shared.proofs.Slots.{lowest_within, lowest_case, lowest_first, lowest_none}
+use Rattle.shared.specs.Store.{taken, store_rules, storing, slot_bytes, put_in}
+use Rattle.std.specs.Prelude.{Option, Some, None as Nothing, IfSome}
+use Rattle.shared.specs.Looking.{numbered}
+use Rattle.shared.proofs.Slots.{lowest_within, lowest_case, lowest_first, lowest_none, some_slot}
 
 pub taken_within : (n : List ℕ) (sector : ℕ) → taken n sector ≤ 40
 unfolding taken choose
@@ -28,6 +28,10 @@ taken_within n sector = go (has n sector)
     go : (b : Bool) → choose b (slot_of n sector) (free_slot n) ≤ 40
     go true = lowest_within (holds n sector)
     go false = lowest_within (is_free n)
+
+pub taken_slot : (n : List ℕ) (sector : ℕ) (o : Option ℕ) → o ≡ numbered (taken n sector) → IfSome o (λ slot. (0 < slot) × (slot ≤ 40))
+taken_slot n sector Nothing e = tt
+taken_slot n sector (Some k) e = let is = some_slot (taken n sector) k e in (is.1, omega (arith, is, taken_within n sector))
 
 module _ (n : List ℕ) (sector : ℕ) where
   -- the slot taken held the sector's record, or was free
@@ -76,7 +80,7 @@ store_gave n sector bytes k h =
     (told.0, ap (λ (l : List ℕ). get_or l 0 0) told.1)
 
 -- which is one of the forty
-pub stored_slot : (n : List ℕ) (sector : ℕ) (bytes : List ℕ) (k : ℕ) {r : Storing} → r ≡ Stored k → told_stored r ≡ storing n sector bytes → (0 < k) × (k ≤ 40)
-stored_slot n sector bytes k e t =
-    let told = store_gave n sector bytes k (sym (ap told_stored (sym e) ∙ t)) in
+pub stored_slot : (n : List ℕ) (sector : ℕ) (bytes : List ℕ) (k : ℕ) → gives (k ∷ []) ≡ storing n sector bytes → (0 < k) × (k ≤ 40)
+stored_slot n sector bytes k e =
+    let told = store_gave n sector bytes k (sym e) in
     (omega (arith, eqb-false (taken n sector) 0 told.0.1.1.0, told.1), omega (arith, taken_within n sector, told.1))

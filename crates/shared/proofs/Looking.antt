@@ -1,23 +1,29 @@
 -- What the answer to who holds a record says of the images, and what the images say of the answer.
 use Prim.Native.Nat.{ℕ, ◌+◌, ◌≤◌, ◌<◌}
 use native.Mathlib.Omega.{arith}
-use mathlib.Core.Path.{◌≡◌, refl, sym, ap, ◌∙◌}
+use mathlib.Core.Path.{◌≡◌, refl, sym, ap, subst, ◌∙◌}
 use mathlib.Core.Logic.{◌↔◌, ◌⊎◌, inl, inr}
 use mathlib.Core.Bool.{Bool, true, false}
 use mathlib.Core.List.{List, [], ◌∷◌}
-use lib.ListN.{length, get_or, drop, length-drop}
+use lib.ListN.{length, drop, length-drop}
 use lib.Seq.{length-take-le}
-use borrow.Author.Tests.{eqb-true, eq-eqb, not-false, lt-ltb, le-ltb, ltb-true, ltb-false}
+use borrow.Author.Tests.{eqb-true, eq-eqb, not-false, lt-ltb, ltb-true, ltb-false}
+use Rattle.ground.specs.Choose.{choose}
 use Rattle.ground.proofs.Choices.{choose_yes, choose_no, not_no}
 use Rattle.refusal.specs.Refusal.{refuses, gives, ruled}
 use Rattle.refusal.specs.declared.Refusal.{Refusal}
 use Rattle.refusal.specs.declared.Refusal.TheVariants.{StateUnfit}
-use Rattle.refusal.proofs.Rules.{Passed, passed, gave, refused, said}
+use Rattle.refusal.proofs.Rules.{Passed, passed, said, ruled_through, each, by_rules}
+use Rattle.std.specs.Prelude.{Option, Some, None, Result, Ok, Err, MatchOption}
+use Rattle.std.specs.Option.{option_map}
 use Rattle.shared.specs.Image.{image_long, start_of, is_length, length_at, record_at, holds, slot_of, has, record_of}
 use Rattle.shared.specs.declared.Found.{Found}
-use Rattle.shared.specs.declared.Found.TheVariants.{Network, Factory, Nobody, Refused}
-use Rattle.shared.specs.Holder.{both_rules, serving, holder_number, holding, record_in, told_found}
-use Rattle.shared.proofs.Slots.{length_within, lowest_within, lowest_first, holds_record}
+use Rattle.shared.specs.declared.Held.{Held}
+use Rattle.shared.specs.declared.Found.TheVariants.{Network, Factory}
+use Rattle.shared.specs.Holder.{both_rules, serving, holder_number, found_values, holding, record_in}
+use Rattle.shared.specs.Looking.{numbered, one_served, served, slot_in}
+use Rattle.shared.specs.Answer.{answer_of, answer_payload}
+use Rattle.shared.proofs.Slots.{length_within, lowest_within, lowest_first, holds_record, some_slot}
 
 -- both images have their size exactly where no rule holds
 pub sizes : (n f : List ℕ) → Passed (both_rules n f) ↔ ((length n ≡ image_long) × (length f ≡ image_long))
@@ -28,11 +34,44 @@ sizes n f =
 pub has_yes : (image : List ℕ) (sector : ℕ) {slot : ℕ} → slot ≡ slot_of image sector → 0 < slot → has image sector ≡ true
 has_yes image sector e h = lt-ltb 0 (slot_of image sector) (rw e at h)
 
-pub has_no : (image : List ℕ) (sector : ℕ) {slot : ℕ} → slot ≡ slot_of image sector → slot ≤ 0 → has image sector ≡ false
-has_no image sector e h = le-ltb 0 (slot_of image sector) (rw e at h)
-
 pub no_slot : (image : List ℕ) (sector : ℕ) → has image sector ≡ false → 0 ≡ slot_of image sector
 no_slot image sector h = omega (arith, ltb-false 0 (slot_of image sector) h)
+
+-- nor is there a record then
+no_record : (image : List ℕ) (sector : ℕ) → has image sector ≡ false → [] ≡ record_of image sector
+unfolding record_of
+no_record image sector h = choose_no _ _ _ _ h refl
+
+-- what is made of an answer about who serves a sector
+abbrev pub of_answer {ℓ} : {A : Type ℓ} → (Refusal → A) → (Option (Found × List ℕ) → A) → Result (Option (Found × List ℕ)) Refusal → A
+of_answer g v (Ok x) = v x
+of_answer g v (Err q) = g q
+
+-- who serves it
+abbrev pub who_part : Option (Found × List ℕ) → Option Found
+who_part None = None
+who_part (Some h) = Some h.0
+
+-- it is what is left of an answer of which only that is handed on
+pub mapped : {P : Held → Type 0} (o : Option Held) (r : Option Found) → MatchOption o (r ≡ None) P → ((h : Held) → P h → r ≡ Some h.found) → r ≡ who_part (option_map (λ h. (h.found, h.bytes.now)) o)
+mapped None r e f = e
+mapped (Some h) r e f = f h e
+
+-- the record that is served; empty where none is
+abbrev pub record_part : Option (Found × List ℕ) → List ℕ
+record_part None = []
+record_part (Some h) = h.1
+
+-- and the payload that answers a request for it
+abbrev pub payload_part : ℕ → Option (Found × List ℕ) → List ℕ
+payload_part sector None = []
+payload_part sector (Some h) = sector ∷ h.1
+
+-- its slot is one of the forty
+abbrev Within : Result (Option (Found × List ℕ)) Refusal → Type 0
+Within (Ok None) = Unit {0}
+Within (Ok (Some h)) = (0 < slot_in h.0) × (slot_in h.0 ≤ 40)
+Within (Err q) = Unit {0}
 
 -- an image holds the record of a sector in a slot, its lowest
 pub record HeldAt (image : List ℕ) (sector slot : ℕ) : Type 0 where
@@ -53,11 +92,23 @@ it_holds image sector slot long h e =
       fits = ap (λ (k : ℕ). is_length (length_at image k)) (sym e) ∙ (holds_record image (slot_of image sector) sector (lowest_first (holds image sector) (ltb-true 0 (slot_of image sector) h)).passes).0;
     }
 
+-- and so where a search gave the slot
+pub held_at : (image : List ℕ) (sector slot : ℕ) → length image ≡ image_long → Some slot ≡ numbered (slot_of image sector) → HeldAt image sector slot
+held_at image sector slot long e =
+    let is = some_slot (slot_of image sector) slot e in
+    it_holds image sector slot long (lt-ltb 0 (slot_of image sector) (omega (arith, is))) is.0
+
+held_yes : (image : List ℕ) (sector slot : ℕ) → HeldAt image sector slot → has image sector ≡ true
+held_yes image sector slot h = lt-ltb 0 (slot_of image sector) (omega (arith, h.from, h.is))
+
 -- then its record is that slot's
 pub held_record : (image : List ℕ) (sector slot : ℕ) → HeldAt image sector slot → record_of image sector ≡ record_at image slot
 unfolding record_of
 held_record image sector slot h =
-    sym (choose_yes _ _ _ _ (lt-ltb 0 (slot_of image sector) (omega (arith, h.from, h.is))) refl) ∙ ap (record_at image) h.is
+    sym (choose_yes _ _ _ _ (held_yes image sector slot h) refl) ∙ ap (record_at image) h.is
+
+held_as : (image : List ℕ) (sector slot : ℕ) (who : ℕ → Found) → HeldAt image sector slot → let now : Found × List ℕ = (who slot, record_at image slot) in Some now ≡ Some (who (slot_of image sector), record_of image sector)
+held_as image sector slot who h = λ i. Some (who (sym h.is i), sym (held_record image sector slot h) i)
 
 -- and it is as long as the slot says
 pub record_length : (image : List ℕ) (sector slot : ℕ) → HeldAt image sector slot → (length (record_at image slot) ≡ length_at image slot) × (length_at image slot ≤ 200)
@@ -102,77 +153,79 @@ module _ (n f : List ℕ) (sector : ℕ) where
   unfolding holding
   says c image it en ef s = rw (← s.number, ← s.image) (sym (passed (both_rules n f) refuses _ ((sizes n f).1 (en, ef))))
 
-  -- an image serves the sector from a slot
-  pub record Serves (image : List ℕ) (slot : ℕ) : Type 0 where
-    pub passes : Passed (both_rules n f)
-    pub serves : serving n f sector ≡ image
-    pub holds : HeldAt image sector slot
+  -- what is made of an answer about who serves the sector is what is made of who does, by the rules
+  pub through {ℓ} : {A : Type ℓ} (g : Refusal → A) (v : Option (Found × List ℕ) → A) (r : Result (Option (Found × List ℕ)) Refusal) → r ≡ served n f sector → of_answer g v r ≡ ruled (both_rules n f) g (v (one_served n f sector))
+  unfolding served
+  through g v r e = ap (of_answer g v) e ∙ ruled_through (of_answer g v) (both_rules n f) Err (Ok (one_served n f sector))
 
-  -- so the slot is one of the image's, and holds a record
-  pub there : {image : List ℕ} {slot : ℕ} → Serves image slot → (length image ≡ image_long) × (((0 < slot) × (slot ≤ 40)) × (is_length (length_at image slot) ≡ true))
-  there s = (s.holds.long, ((s.holds.from, s.holds.within), s.holds.fits))
-
-  -- what is said of a sector that is no refusal
-  given : (c k : ℕ) → gives (c ∷ k ∷ []) ≡ holding n f sector → Passed (both_rules n f) × ((holder_number n f sector ≡ c) × (slot_of (serving n f sector) sector ≡ k))
-  unfolding holding
-  given c k h =
-      let told = gave (both_rules n f) (holder_number n f sector ∷ slot_of (serving n f sector) sector ∷ []) (c ∷ k ∷ []) (sym h) in
-      (told.0, (ap (λ (l : List ℕ). get_or l 0 0) told.1, ap (λ (l : List ℕ). get_or l 1 0) told.1))
-
-  -- it is served by the image that the number names, from that slot
-  serves_by : (c k : ℕ) (image : List ℕ) → gives (c ∷ k ∷ []) ≡ holding n f sector → (Passed (both_rules n f) → length image ≡ image_long) → Serving c image true → Serves image k
-  serves_by c k image h long s =
-      let told = given c k h in
-      record { passes = told.0; serves = s.image; holds = it_holds image sector k (long told.0) s.mine (ap (λ (i : List ℕ). slot_of i sector) (sym s.image) ∙ told.1.1) }
-
-  -- another number is not said
-  not_said : (c d k : ℕ) (image : List ℕ) (it : Bool) → gives (c ∷ k ∷ []) ≡ holding n f sector → Serving d image it → (c ≡ d → ⊥) → ⊥
-  not_said c d k image it h s ne = ne (sym (given c k h).1.0 ∙ s.number)
-
-  pub found_network : (k : ℕ) {r : Found} → r ≡ Network k → told_found r ≡ holding n f sector → Serves n k
-  found_network k e t = go who
+  -- who it is, and the slot
+  pub who_is : (r : Result (Option (Found × List ℕ)) Refusal) → r ≡ served n f sector → of_answer refuses (λ x. gives (found_values (who_part x))) r ≡ holding n f sector
+  unfolding holding one_served holder_number serving choose
+  who_is r e =
+      through refuses (λ x. gives (found_values (who_part x))) r e ∙ ap (λ (l : List ℕ). ruled (both_rules n f) refuses (gives l)) (go (has n sector) (has f sector) refl)
     where
-      h : gives (1 ∷ k ∷ []) ≡ holding n f sector
-      h = ap told_found (sym e) ∙ t
+      go : (a b : Bool) → has f sector ≡ b → found_values (who_part (choose a (Some (Network (slot_of n sector), record_of n sector)) (choose b (Some (Factory (slot_of f sector), record_of f sector)) None))) ≡ choose a 1 (choose b 2 0) ∷ slot_of (choose a n f) sector ∷ []
+      go true b q = refl
+      go false true q = refl
+      go false false q = ap (λ (k : ℕ). 0 ∷ k ∷ []) (no_slot f sector q)
 
-      go : Who → Serves n k
-      go (inl s) = serves_by 1 k n h (λ ok. ((sizes n f).0 ok).0) s
-      go (inr (inl s)) = absurd (not_said 1 2 k f true h s (λ z. omega (arith, z)))
-      go (inr (inr s)) = absurd (not_said 1 0 k f false h s (λ z. omega (arith, z)))
-
-  pub found_factory : (k : ℕ) {r : Found} → r ≡ Factory k → told_found r ≡ holding n f sector → Serves f k
-  found_factory k e t = go who
+  -- the record
+  pub record_is : (r : Result (Option (Found × List ℕ)) Refusal) → r ≡ served n f sector → of_answer (λ q. []) record_part r ≡ record_in n f sector
+  unfolding record_in one_served serving choose
+  record_is r e =
+      through (λ q. []) record_part r e ∙ ap (ruled (both_rules n f) (λ q. [])) (go (has n sector) (has f sector) refl)
     where
-      h : gives (2 ∷ k ∷ []) ≡ holding n f sector
-      h = ap told_found (sym e) ∙ t
+      go : (a b : Bool) → has f sector ≡ b → record_part (choose a (Some (Network (slot_of n sector), record_of n sector)) (choose b (Some (Factory (slot_of f sector), record_of f sector)) None)) ≡ record_of (choose a n f) sector
+      go true b q = refl
+      go false true q = refl
+      go false false q = no_record f sector q
 
-      go : Who → Serves f k
-      go (inl s) = absurd (not_said 2 1 k n true h s (λ z. omega (arith, z)))
-      go (inr (inl s)) = serves_by 2 k f h (λ ok. ((sizes n f).0 ok).1) s
-      go (inr (inr s)) = absurd (not_said 2 0 k f false h s (λ z. omega (arith, z)))
+  -- and the payload that answers a request for it
+  pub payload_is : payload_part sector (one_served n f sector) ≡ answer_payload n f sector
+  unfolding one_served answer_of serving choose
+  payload_is = go (has n sector) refl (has f sector) refl
+    where
+      go : (a : Bool) → has n sector ≡ a → (b : Bool) → has f sector ≡ b → payload_part sector (choose a (Some (Network (slot_of n sector), record_of n sector)) (choose b (Some (Factory (slot_of f sector), record_of f sector)) None)) ≡ choose (has (choose a n f) sector) (sector ∷ record_of (choose a n f) sector) []
+      go true p b q = rw p refl
+      go false p true q = rw q refl
+      go false p false q = rw q refl
 
-  pub found_nobody : {r : Found} → r ≡ Nobody → told_found r ≡ holding n f sector → Passed (both_rules n f) × (has (serving n f sector) sector ≡ false)
-  found_nobody e t = let told = given 0 0 (ap told_found (sym e) ∙ t) in (told.0, le-ltb 0 (slot_of (serving n f sector) sector) (omega (arith, told.1.1)))
+  -- the slot is one of the forty
+  one_within : Within (Ok (one_served n f sector))
+  unfolding one_served choose
+  one_within = go (has n sector) refl (has f sector) refl
+    where
+      go : (a : Bool) → has n sector ≡ a → (b : Bool) → has f sector ≡ b → Within (Ok (choose a (Some (Network (slot_of n sector), record_of n sector)) (choose b (Some (Factory (slot_of f sector), record_of f sector)) None)))
+      go true p b q = (ltb-true 0 (slot_of n sector) p, lowest_within (holds n sector))
+      go false p true q = (ltb-true 0 (slot_of f sector) q, lowest_within (holds f sector))
+      go false p false q = tt
 
-  pub found_refused {ℓ} : {A : Type ℓ} {r : Found} (g : Refusal → A) (v : A) (q : Refusal) → r ≡ Refused q → told_found r ≡ holding n f sector → ruled (both_rules n f) g v ≡ g q
-  unfolding holding
-  found_refused g v q e t = refused (both_rules n f) _ g v q (sym (ap told_found (sym e) ∙ t))
+  pub slot_within : (h : Found × List ℕ) → Ok (Some h) ≡ served n f sector → (0 < slot_in h.0) × (slot_in h.0 ≤ 40)
+  unfolding served
+  slot_within h e =
+      subst Within (sym e) (by_rules Within (both_rules n f) Err (Ok (one_served n f sector)) (each (λ q. tt) (both_rules n f)) (λ ok. one_within))
 
-  -- the record that is served
-  pub served_record : (image : List ℕ) (slot : ℕ) → Serves image slot → record_of (serving n f sector) sector ≡ record_at image slot
-  served_record image slot s = ap (λ (i : List ℕ). record_of i sector) s.serves ∙ held_record image sector slot s.holds
+  -- what is answered where both images have their size: the slot of the network's copy, or else the factory image's, or nobody
+  module _ (long : (length n ≡ image_long) × (length f ≡ image_long)) where
+    one_is : {x : Option (Found × List ℕ)} → x ≡ one_served n f sector → Ok x ≡ served n f sector
+    unfolding served
+    one_is e = ap Ok e ∙ sym (passed (both_rules n f) Err _ ((sizes n f).1 long))
 
-  pub record_served : (image : List ℕ) (slot : ℕ) → Serves image slot → record_in n f sector ≡ record_at image slot
-  unfolding record_in
-  record_served image slot s = passed (both_rules n f) (λ r. []) _ s.passes ∙ served_record image slot s
+    pub by_network_slot : (k : ℕ) → HeldAt n sector k → Ok (Some (Network k, record_at n k)) ≡ served n f sector
+    unfolding one_served
+    by_network_slot k h = one_is (choose_yes _ _ _ _ (held_yes n sector k h) (held_as n sector k Network h))
 
-  pub record_missing : Passed (both_rules n f) → has (serving n f sector) sector ≡ false → record_in n f sector ≡ []
-  unfolding record_in record_of
-  record_missing ok none = passed (both_rules n f) (λ r. []) _ ok ∙ sym (choose_no _ _ _ _ none refl)
+    pub by_factory_slot : (k : ℕ) → has n sector ≡ false → HeldAt f sector k → Ok (Some (Factory k, record_at f k)) ≡ served n f sector
+    unfolding one_served
+    by_factory_slot k none h = one_is (choose_no _ _ _ _ none (choose_yes _ _ _ _ (held_yes f sector k h) (held_as f sector k Factory h)))
 
-  pub record_refused : (q : Refusal) {r : Found} → r ≡ Refused q → told_found r ≡ holding n f sector → record_in n f sector ≡ []
-  unfolding record_in
-  record_refused q e t = found_refused (λ r. []) _ q e t
+    pub by_nobody_there : has n sector ≡ false → has f sector ≡ false → Ok None ≡ served n f sector
+    unfolding one_served
+    by_nobody_there none neither = one_is (choose_no _ _ _ _ none (choose_no _ _ _ _ neither refl))
+
+  pub unfit_served : (Passed (both_rules n f) → ⊥) → Err StateUnfit ≡ served n f sector
+  unfolding served
+  unfit_served h = sym (said (both_rules n f) StateUnfit Err _ (refl, (refl, tt)) h)
 
   -- where an image has another size, 22 is said, and nothing is served
   pub unfit : (Passed (both_rules n f) → ⊥) → (holding n f sector ≡ refuses StateUnfit) × (record_in n f sector ≡ [])

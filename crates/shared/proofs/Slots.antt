@@ -1,18 +1,21 @@
 -- The laws of slots: which lengths a record has, what is known of the lowest that fits, and what a slot's occupant tells.
-use Prim.Native.Nat.{ℕ, ◌+◌, ◌≤◌, ◌<◌}
+use Prim.Native.Nat.{ℕ, zero, suc, ◌+◌, ◌≤◌, ◌<◌}
 use native.Mathlib.Omega.{arith}
-use native.Mathlib.Decide.{ℕ_discrete}
 use mathlib.Core.Path.{◌≡◌, refl, sym, ap, ◌∙◌}
 use mathlib.Core.Logic.{◌↔◌, inl, inr}
 use mathlib.Core.Bool.{Bool, true, false, ◌&&◌, not}
 use mathlib.Core.List.{List}
-use lib.Dec.{eqb, leb}
-use borrow.Author.Tests.{leb-true, eqb-true, eq-eqb, ne_eqb}
+use lib.Dec.{eqb, leb, ltb}
+use borrow.Author.Tests.{leb-true, eqb-true, lt-ltb, ltb-true}
 use Rattle.ground.specs.Choose.{choose}
-use Rattle.ground.proofs.Choices.{and_left, and_right, not_no}
+use Rattle.ground.proofs.Choices.{and_left, and_right, not_no, choose_yes}
 use Rattle.ground.proofs.Firsts.{First, FirstCase, None, first_case, first_is, none_is, first_same}
-use Rattle.shared.specs.Image.{slots, sector_at, length_at, is_length, holds, is_free, lowest}
-use Rattle.shared.specs.Looking.{occupant}
+use Rattle.shared.specs.Image.{slots, sector_at, length_at, is_length, holds, is_free, lowest, slot_of}
+use Rattle.std.specs.Prelude.{cond, Option, Some, None as Nothing, IfSome, MatchOption}
+use Rattle.std.specs.List.{find, range_with_len}
+use Rattle.std.specs.Option.{option_eq}
+use Rattle.ground.specs.Below.{up_from, first_or}
+use Rattle.shared.specs.Looking.{numbered, HoldsRecord, occupant}
 
 -- a record has 6 to 200 bytes
 pub length_within : (n : ℕ) → is_length n ≡ true → (6 ≤ n) × (n ≤ 200)
@@ -71,22 +74,66 @@ module _ (image : List ℕ) (slot : ℕ) where
   free_no h = not_no _ h
 
   -- the occupant of a slot tells whether it holds a sector's record, and whether it is free
-  pub occupant_holds : (sector : ℕ) → eqb (occupant image slot) (1 + sector) ≡ holds image sector slot
+  pub occupant_holds : (sector : ℕ) → option_eq eqb (occupant image slot) (Some sector) ≡ holds image sector slot
   unfolding occupant holds choose
   occupant_holds sector = go (is_length (length_at image slot))
     where
-      both_ways : Dec (sector_at image slot ≡ sector) → eqb (1 + sector_at image slot) (1 + sector) ≡ eqb (sector_at image slot) sector
-      both_ways (yes e) = eq-eqb _ _ (ap (λ (k : ℕ). 1 + k) e) ∙ sym (eq-eqb _ _ e)
-      both_ways (no h) = ne_eqb (1 + sector_at image slot) (1 + sector) (λ e. h (omega (arith, e))) ∙ sym (ne_eqb _ _ h)
+      go : (b : Bool) → option_eq eqb (choose b (Some (sector_at image slot)) Nothing) (Some sector) ≡ (b && eqb (sector_at image slot) sector)
+      go true = refl
+      go false = refl
 
-      go : (b : Bool) → eqb (choose b (1 + sector_at image slot) 0) (1 + sector) ≡ (b && eqb (sector_at image slot) sector)
-      go true = both_ways (ℕ_discrete (sector_at image slot) sector)
-      go false = ne_eqb 0 (1 + sector) (λ e. omega (arith, e))
-
-  pub occupant_free : eqb (occupant image slot) 0 ≡ is_free image slot
+  pub occupant_free : option_eq eqb (occupant image slot) Nothing ≡ is_free image slot
   unfolding occupant is_free choose
   occupant_free = go (is_length (length_at image slot))
     where
-      go : (b : Bool) → eqb (choose b (1 + sector_at image slot) 0) 0 ≡ not b
-      go true = ne_eqb (1 + sector_at image slot) 0 (λ e. omega (arith, e))
+      go : (b : Bool) → option_eq eqb (choose b (Some (sector_at image slot)) Nothing) Nothing ≡ not b
+      go true = refl
       go false = refl
+
+-- what a search of the slots finds is the lowest that fits
+pub found_lowest : (fits : ℕ → Bool) (a n : ℕ) → 0 < a → find fits (range_with_len a n) ≡ numbered (first_or 0 fits (up_from a n))
+unfolding first_or up_from choose
+found_lowest fits a zero h = refl
+found_lowest fits a (suc n) h = go (fits a) (found_lowest fits (a + 1) n (omega arith))
+  where
+    go : (b : Bool) → find fits (range_with_len (a + 1) n) ≡ numbered (first_or 0 fits (up_from (a + 1) n)) → cond b (Some a) (find fits (range_with_len (a + 1) n)) ≡ numbered (choose b a (first_or 0 fits (up_from (a + 1) n)))
+    go true e = choose_yes _ _ _ _ (lt-ltb 0 a h) refl
+    go false e = e
+
+-- an answer that is a slot gives its number, and one that is none says that there is none
+pub some_slot : (n k : ℕ) → Some k ≡ numbered n → (n ≡ k) × (0 < k)
+unfolding choose
+some_slot n k e = go (ltb 0 n) refl e
+  where
+    go : (b : Bool) → ltb 0 n ≡ b → Some k ≡ choose b (Some n) Nothing → (n ≡ k) × (0 < k)
+    go true t q = let is : n ≡ k = cc in (is, omega (arith, ltb-true 0 n t, is))
+    go false t q = absurd (cc)
+
+pub no_slot_at : (n : ℕ) → Nothing ≡ numbered n → ltb 0 n ≡ false
+unfolding choose
+no_slot_at n e = go (ltb 0 n) refl e
+  where
+    go : (b : Bool) → ltb 0 n ≡ b → Nothing ≡ choose b (Some n) Nothing → ltb 0 n ≡ false
+    go true t q = absurd (cc)
+    go false t q = t
+
+-- so what a search for a sector gives holds its record
+pub slot_holds : (image : List ℕ) (sector : ℕ) (o : Option ℕ) → o ≡ numbered (slot_of image sector) → IfSome o (HoldsRecord image)
+slot_holds image sector Nothing e = tt
+slot_holds image sector (Some k) e =
+    let is = some_slot (slot_of image sector) k e in
+    let some : 0 < slot_of image sector = omega (arith, is) in
+    record {
+      from = is.1;
+      within = omega (arith, is, lowest_within (holds image sector));
+      fits = ap (λ (j : ℕ). is_length (length_at image j)) (sym is.0) ∙ (holds_record image (slot_of image sector) sector (lowest_first (holds image sector) some).passes).0;
+    }
+
+-- a slot, or else another, is as the number of the one, or else of the other
+pub or_else_slot : {P : Type 0} (o r : Option ℕ) (n m : ℕ) → o ≡ numbered n → MatchOption o P (λ x. r ≡ Some x) → (P → r ≡ numbered m) → r ≡ numbered (choose (ltb 0 n) n m)
+unfolding choose
+or_else_slot {P} o r n m e h other = go (ltb 0 n) refl (rw e at h)
+  where
+    go : (b : Bool) → ltb 0 n ≡ b → MatchOption (choose b (Some n) Nothing) P (λ x. r ≡ Some x) → r ≡ numbered (choose b n m)
+    go true t q = q ∙ choose_yes _ _ _ _ t refl
+    go false t q = other q

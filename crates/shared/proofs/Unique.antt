@@ -3,11 +3,12 @@ use Prim.Native.Nat.{ℕ}
 use mathlib.Core.Path.{◌≡◌, sym, ◌∙◌}
 use mathlib.Core.List.{List}
 use denote.Ref.{Bor, MutBor}
-use Rattle.frame.specs.declared.Writing.{Writing}
+use Rattle.frame.specs.Frame.{Writing}
 use Rattle.frame.specs.declared.WriteNumbers.{WriteNumbers}
 use Rattle.frame.proofs.Unique.{one_writing}
 use Rattle.shared.specs.declared.Found.{Found}
-use Rattle.shared.specs.declared.Storing.{Storing}
+use Rattle.std.specs.Prelude.{Option, Result}
+use Rattle.refusal.specs.declared.Refusal.{Refusal}
 use Rattle.shared.specs.declared.HolderNumbers.{HolderNumbers}
 use Rattle.shared.specs.declared.StoreNumbers.{StoreNumbers}
 use Rattle.shared.proofs.Told.{same_found, same_stored}
@@ -19,7 +20,7 @@ use Rattle.shared.proofs.nadrelgos_shared_holder.Reads as face-holder
 use Rattle.shared.proofs.nadrelgos_shared_store.Reads as face-store
 use Rattle.shared.proofs.nadrelgos_shared_answer.Reads as face-answer
 
-pub unique_holder : (κs a s t : _) (r q : Found) → holder.Post κs a r s → holder.Post κs a q t → r ≡ q
+pub unique_holder : (κs a s t : _) (r q : Result (Option Found) Refusal) → holder.Post κs a r s → holder.Post κs a q t → r ≡ q
 unique_holder κs a s t r q p p' = same_found r q (p ∙ sym p')
 
 pub unique_record : (κs a s t : _) (r q : Bor (List ℕ)) → record-part.Post κs a r s → record-part.Post κs a q t → r.now ≡ q.now
@@ -32,7 +33,7 @@ unique_nadrelgos_shared_holder κs a s t r q p p' = p ∙ sym p'
 abbrev pub Kept : Type 0
 Kept = MutBor (List ℕ) × (ℕ × (Bor (List ℕ) × Unit {0}))
 
-pub unique_store : (κs : _) (a s t : Kept) (r q : Storing) → store.Post κs a r s → store.Post κs a q t → (r ≡ q) × (s.0.now ≡ t.0.now)
+pub unique_store : (κs : _) (a s t : Kept) (r q : Result ℕ Refusal) → store.Post κs a r s → store.Post κs a q t → (r ≡ q) × (s.0.now ≡ t.0.now)
 unique_store κs a s t r q p p' = (same_stored r q (p.0 ∙ sym p'.0), p.1 ∙ sym p'.1)
 
 pub unique_nadrelgos_shared_store : (κs : _) (a s t : Kept) (r q : StoreNumbers) → face-store.Post κs a r s → face-store.Post κs a q t → (r ≡ q) × (s.0.now ≡ t.0.now)

@@ -1,11 +1,11 @@
 -- Which image serves a sector (02, C-16): "from the network's copy, or else from the factory image".
-use Rattle.std.specs.Prelude.{ℕ, Bool, not, List, [], ◌∷◌, ◌++◌, length, eqb}
+use Rattle.std.specs.Prelude.{ℕ, Bool, not, List, [], ◌∷◌, ◌++◌, length, eqb, Option, Some, None, Result}
 use Rattle.ground.specs.Choose.{choose}
-use Rattle.refusal.specs.Refusal.{Told, refuses, gives, ruled}
+use Rattle.refusal.specs.Refusal.{Told, refuses, gives, says, ruled}
 use Rattle.refusal.specs.declared.Refusal.{Refusal}
 use Rattle.refusal.specs.declared.Refusal.TheVariants.{StateUnfit}
 use Rattle.shared.specs.declared.Found.{Found}
-use Rattle.shared.specs.declared.Found.TheVariants.{Network, Factory, Nobody, Refused}
+use Rattle.shared.specs.declared.Found.TheVariants.{Network, Factory}
 use Rattle.shared.specs.Image.{image_long, slot_of, has, record_of}
 
 -- 22: "another image size gets 22" (02, C-16)
@@ -35,9 +35,12 @@ unfoldable pub record_in : List ℕ → List ℕ → ℕ → List ℕ
 record_in network factory sector =
     ruled (both_rules network factory) (λ r. []) (record_of (serving network factory sector) sector)
 
+-- the numbers of who holds a record: the image's and the slot, 0 and 0 where nobody does
+abbrev pub found_values : Option Found → List ℕ
+found_values None = 0 ∷ 0 ∷ []
+found_values (Some (Network slot)) = 1 ∷ slot ∷ []
+found_values (Some (Factory slot)) = 2 ∷ slot ∷ []
+
 -- what an answer says
-abbrev pub told_found : Found → Told
-told_found (Network slot) = gives (1 ∷ slot ∷ [])
-told_found (Factory slot) = gives (2 ∷ slot ∷ [])
-told_found Nobody = gives (0 ∷ 0 ∷ [])
-told_found (Refused r) = refuses r
+abbrev pub told_found : Result (Option Found) Refusal → Told
+told_found = says found_values

@@ -1,6 +1,6 @@
 pub mod Image
-pub mod Looking
 pub mod Holder
+pub mod Looking
 pub mod Store
 pub mod Answer
 pub mod Numbers

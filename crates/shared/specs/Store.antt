@@ -1,12 +1,10 @@
 -- Storing a record in the network's copy (003, 5.10; 02, C-16).
-use Rattle.std.specs.Prelude.{ℕ, ◌≤◌, ◌≡◌, Bool, true, not, List, [], ◌∷◌, ◌++◌, length, eqb}
+use Rattle.std.specs.Prelude.{ℕ, ◌≤◌, ◌≡◌, Bool, true, not, List, [], ◌∷◌, ◌++◌, length, eqb, Result}
 use Rattle.std.proofs.Math.Seq.{paste}
 use Rattle.ground.specs.Choose.{choose}
-use Rattle.refusal.specs.Refusal.{Told, refuses, gives, ruled}
+use Rattle.refusal.specs.Refusal.{Told, refuses, gives, says, ruled}
 use Rattle.refusal.specs.declared.Refusal.{Refusal}
 use Rattle.refusal.specs.declared.Refusal.TheVariants.{BadLength, NoSlot}
-use Rattle.shared.specs.declared.Storing.{Storing}
-use Rattle.shared.specs.declared.Storing.TheVariants.{Stored, Refused}
 use Rattle.shared.specs.Image.{slots, start_of, sector_at, length_at, is_length, slot_of, free_slot, has}
 use Rattle.shared.specs.Holder.{image_rules}
 
@@ -44,6 +42,5 @@ stored network sector bytes =
     ruled (store_rules network sector bytes) (λ r. network) (put_in network (taken network sector) (slot_bytes sector bytes))
 
 -- what an answer says
-abbrev pub told_stored : Storing → Told
-told_stored (Stored slot) = gives (slot ∷ [])
-told_stored (Refused r) = refuses r
+abbrev pub told_stored : Result ℕ Refusal → Told
+told_stored = says (λ slot. slot ∷ [])

@@ -1,11 +1,10 @@
 -- After an accepted start coordinator and table are fit, nobody is listed, nobody was offered the bus, nothing is held and nothing is waited for or due.
-use Prim.Native.Nat.{ℕ, ◌<◌}
-use native.Mathlib.Omega.{arith}
+use Prim.Native.Nat.{ℕ}
 use mathlib.Core.Path.{◌≡◌, refl, sym, ap, subst, ◌∙◌}
 use mathlib.Core.Bool.{Bool, true, false, not}
 use mathlib.Core.List.{List, [], ◌∷◌}
 use lib.Dec.{eqb}
-use lib.ListN.{length, get_or, drop, replicate, get_or-append}
+use lib.ListN.{length, drop, replicate, get_or-append}
 use borrow.Author.Tests.{not-false}
 use Rattle.ground.specs.Bytes.{laid}
 use Rattle.refusal.specs.declared.Refusal.{Refusal}
@@ -17,7 +16,7 @@ use Rattle.board.specs.Table.{listed_at}
 use Rattle.setup.specs.declared.Setup.{Setup}
 use Rattle.setup.specs.Setup.{is_pool, setup_rules, setup_fits}
 use Rattle.setup.specs.Fitness.{Pool}
-use Rattle.setup.proofs.Pools.{pool_told, mac_told, setup_passes}
+use Rattle.setup.proofs.Pools.{same_pool, pool_told, mac_told, setup_passes}
 use Rattle.coordinator.specs.declared.Coordinator.{Coordinator}
 use Rattle.coordinator.specs.declared.Phase.TheVariants.{Resting}
 use Rattle.coordinator.specs.Phase.{phase_of}
@@ -30,17 +29,7 @@ use Rattle.start.proofs.Cases.{made}
 
 -- a pool laid over anything is a pool
 laid_pool : (a o : List ℕ) → Pool (length a) a → Pool (length a) (laid a o)
-laid_pool a o f =
-    record {
-      from = f.from;
-      up_to = f.up_to;
-      rising = λ i j l m. rw (same i (omega (arith, m)), same j m) (f.rising i j l m);
-      low = λ i l. rw (same i l) (f.low i l);
-      high = λ i l. rw (same i l) (f.high i l);
-    }
-  where
-    same : (i : ℕ) → i < length a → get_or (laid a o) i 0 ≡ get_or a i 0
-    same i h = get_or-append a (drop (length a) o) 0 i h
+laid_pool a o f = same_pool (length a) a (laid a o) (λ i l. get_or-append a (drop (length a) o) 0 i l) f
 
 -- a fresh start with this setup (01, "Setup .. clears all records, waits, dues and holds", and "A fresh start begins at 1")
 pub record FreshStart (s : Setup) (r : After) : Type 0 where

@@ -7,6 +7,7 @@ use mathlib.Core.List.{List, []}
 use lib.ListN.{length}
 use lib.Dec.{eqb, ltb}
 use borrow.Author.Tests.{eqb-true, eq-eqb}
+use Rattle.std.specs.Prelude.{Result, Ok, Err}
 use Rattle.refusal.specs.Refusal.{Told}
 use Rattle.refusal.specs.declared.Refusal.TheVariants.{NoRoom}
 use Rattle.frame.specs.Frame.{header_of, frame_of}
@@ -16,10 +17,11 @@ use Rattle.board.specs.Change.{heard}
 use Rattle.board.proofs.Changes.{at_put}
 use Rattle.setup.specs.Setup.{address}
 use Rattle.message.specs.Message.{own_header}
+use Rattle.refusal.specs.declared.Refusal.{Refusal}
 use Rattle.accept.specs.declared.Heard.{Heard}
-use Rattle.accept.specs.declared.Heard.TheVariants.{Ack, Echo, Deliver, Route, Answer, Refused}
+use Rattle.accept.specs.declared.Heard.TheVariants.{Ack, Echo, Deliver, Route, Answer}
 use Rattle.accept.specs.declared.Reply.{Reply}
-use Rattle.accept.specs.declared.Reply.TheVariants.{Discovered, Present as AckCame, Identified, Assigned, Refused as NotTaken}
+use Rattle.accept.specs.declared.Reply.TheVariants.{Discovered, Present as AckCame, Identified, Assigned}
 use Rattle.accept.proofs.Replied.{search_replied}
 use Rattle.coordinator.specs.declared.Coordinator.{Coordinator}
 use Rattle.coordinator.specs.declared.Found.{Found}
@@ -66,13 +68,13 @@ module _ (c : Coordinator) (t : List Node) (h : fits c t ≡ true) (received : L
   acked_signs Forward b q u = silent
   acked_signs Return b q u = silent
 
-  taken_signs : (b : ℕ) → Board c t b → p ≡ b → (x : Heard) (e : Exchange) (q : ℕ) → Signs (taken_as x e b q c t (header_of received) (payload received) room)
-  taken_signs b board here Ack e q = acked_signs e b q _
-  taken_signs b board here Echo e q = acking_signs b board here _ _
-  taken_signs b board here Deliver e q = acking_signs b board here _ _
-  taken_signs b board here Route e q = acking_signs b board here _ _
-  taken_signs b board here Answer e q = acking_signs b board here _ _
-  taken_signs b board here (Refused r) e q = silent
+  taken_signs : (b : ℕ) → Board c t b → p ≡ b → (x : Result Heard Refusal) (e : Exchange) (q : ℕ) → Signs (taken_as x e b q c t (header_of received) (payload received) room)
+  taken_signs b board here (Ok Ack) e q = acked_signs e b q _
+  taken_signs b board here (Ok Echo) e q = acking_signs b board here _ _
+  taken_signs b board here (Ok Deliver) e q = acking_signs b board here _ _
+  taken_signs b board here (Ok Route) e q = acking_signs b board here _ _
+  taken_signs b board here (Ok Answer) e q = acking_signs b board here _ _
+  taken_signs b board here (Err r) e q = silent
 
   -- in the exchange by which a board joins: a discovery's response is not acknowledged
   answered_signs : (f : Found) → Signs (answered c t f)
@@ -82,12 +84,12 @@ module _ (c : Coordinator) (t : List Node) (h : fits c t ≡ true) (received : L
   unfolding own_header frame_of
   settled_signs b here f = by_choice Signs (ltb room 29) (refused c t NoRoom) _ (λ _. silent) (λ _ _. ap (λ (q : ℕ). (at (outcome c t b f).nodes q).index) (sym here))
 
-  replied_signs : (b : ℕ) → p ≡ b → (r : Reply) → Signs (replied_as r b c t (header_of received).packet (payload received) room)
-  replied_signs b here Discovered = answered_signs _
-  replied_signs b here AckCame = silent
-  replied_signs b here Identified = settled_signs b here _
-  replied_signs b here Assigned = settled_signs b here _
-  replied_signs b here (NotTaken r) = silent
+  replied_signs : (b : ℕ) → p ≡ b → (r : Result Reply Refusal) → Signs (replied_as r b c t (header_of received).packet (payload received) room)
+  replied_signs b here (Ok Discovered) = answered_signs _
+  replied_signs b here (Ok AckCame) = silent
+  replied_signs b here (Ok Identified) = settled_signs b here _
+  replied_signs b here (Ok Assigned) = settled_signs b here _
+  replied_signs b here (Err r) = silent
 
   sought_signs : (b : ℕ) (part : Part) → phase_of c.stand ≡ Seeking b part → awaits (Seeking b part) c.setup (header_of received).source ≡ true → Signs (sought_in part b c t (header_of received) (payload received) room)
   sought_signs b part e = go part (λ w. replied_signs b (there b (fits_stake c t h e).0.from (fits_stake c t h e).0.up_to (eqb-true _ _ w)) (reply_in part b c (header_of received) (payload received)))

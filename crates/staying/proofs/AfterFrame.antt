@@ -6,6 +6,7 @@ use mathlib.Core.Bool.{Bool, true, false}
 use mathlib.Core.List.{List}
 use borrow.Author.Tests.{eqb-true}
 use lib.Dec.{eqb, ltb}
+use Rattle.std.specs.Prelude.{Result, Ok, Err}
 use Rattle.ground.specs.Choose.{choose}
 use Rattle.ground.proofs.Choices.{choose_no}
 use Rattle.refusal.specs.Refusal.{Told as Answered}
@@ -20,8 +21,9 @@ use Rattle.setup.specs.Setup.{address}
 use Rattle.setup.proofs.Pools.{setup_told}
 use Rattle.routing.specs.Route.{route_of}
 use Rattle.message.specs.Message.{signed_frame, ack_code}
+use Rattle.refusal.specs.declared.Refusal.{Refusal}
 use Rattle.accept.specs.declared.Heard.{Heard}
-use Rattle.accept.specs.declared.Heard.TheVariants.{Ack, Echo, Deliver, Route, Answer, Refused}
+use Rattle.accept.specs.declared.Heard.TheVariants.{Ack, Echo, Deliver, Route, Answer}
 use Rattle.coordinator.specs.declared.Exchange.{Exchange}
 use Rattle.coordinator.specs.declared.Exchange.TheVariants.{Offer, List as Listing, Forward, Return}
 use Rattle.coordinator.specs.declared.Found.{Found}
@@ -105,16 +107,16 @@ module _ (s : Seen) (c : Coordinator) (t : List Node) (h : fits c t ≡ true) (g
         go true bytes = refused_tells s c t Frame received g NoRoom
         go false bytes = heard_tells same e hear_changes refl (wait (accepted after (hear t b) says bytes))
 
-    taken_tells : (x : Heard) (exchange : Exchange) (q : ℕ) (f : Header) (p : List ℕ) (room : ℕ) → Told s t Frame received (taken_as x exchange b q c t f p room)
-    taken_tells Ack exchange q f p room = acked_tells exchange q _ (ack_changes _)
-    taken_tells Echo exchange q f p room = acking_tells room transmits _ refl refl (λ a. rw (phase_back resting) tt)
-    taken_tells Deliver exchange q f p room = acking_tells room delivers _ refl refl (λ a. rw (phase_back resting) tt)
-    taken_tells Route exchange q f p room = acking_tells room transmits (routed c f p b to) (routed_setup c f p b to) refl (λ a. routed_waits (saw_board received a s) (routed c f p b to).found c f p b to)
+    taken_tells : (x : Result Heard Refusal) (exchange : Exchange) (q : ℕ) (f : Header) (p : List ℕ) (room : ℕ) → Told s t Frame received (taken_as x exchange b q c t f p room)
+    taken_tells (Ok Ack) exchange q f p room = acked_tells exchange q _ (ack_changes _)
+    taken_tells (Ok Echo) exchange q f p room = acking_tells room transmits _ refl refl (λ a. rw (phase_back resting) tt)
+    taken_tells (Ok Deliver) exchange q f p room = acking_tells room delivers _ refl refl (λ a. rw (phase_back resting) tt)
+    taken_tells (Ok Route) exchange q f p room = acking_tells room transmits (routed c f p b to) (routed_setup c f p b to) refl (λ a. routed_waits (saw_board received a s) (routed c f p b to).found c f p b to)
       where
         to : ℕ
         to = route_of t c.setup.k b f.method f.parameter1
-    taken_tells Answer exchange q f p room = acking_tells room transmits _ refl refl (λ a. rw (phase_back (return_due_lem q)) tt)
-    taken_tells (Refused r) exchange q f p room = refused_tells s c t Frame received g r
+    taken_tells (Ok Answer) exchange q f p room = acking_tells room transmits _ refl refl (λ a. rw (phase_back (return_due_lem q)) tt)
+    taken_tells (Err r) exchange q f p room = refused_tells s c t Frame received g r
 
   value : (phase : Phase) → phase_of c.stand ≡ phase → awaits phase c.setup (header_of received).source ≡ true → (room : ℕ) → Told s t Frame received (taken_in phase c t (header_of received) (payload received) room)
   value Resting e from room = refused_tells s c t Frame received g NotAwaited

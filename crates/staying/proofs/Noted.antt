@@ -15,7 +15,7 @@ use Rattle.board.specs.Change.{joined_node}
 use Rattle.board.proofs.Positions.{Outside, at_made, at_outside, position_case}
 use Rattle.board.specs.Columns.{kind_of, kinds_of, stored_version, versions_of}
 use Rattle.board.proofs.SameKinds.{SameKinds}
-use Rattle.board.proofs.Columns.{same_kinds, same_column}
+use Rattle.board.proofs.Column.{same_kinds, same_column}
 use Rattle.setup.specs.Fitness.{FitTable}
 use Rattle.board.proofs.Versions.{version_again}
 use Rattle.nodelist.proofs.Theorems.{free_kind}

@@ -6,6 +6,7 @@ use mathlib.Core.Bool.{Bool, true, false, false≢true}
 use mathlib.Core.List.{List}
 use lib.Dec.{eqb, ltb}
 use borrow.Author.Tests.{eq-eqb, eqb-false, not-true}
+use Rattle.std.specs.Prelude.{Result}
 use Rattle.ground.proofs.Choices.{or_left}
 use Rattle.refusal.specs.Refusal.{Told, number_of}
 use Rattle.refusal.specs.declared.Refusal.{Refusal}
@@ -57,7 +58,7 @@ module _ (c : Coordinator) (t : List Node) where
 
     -- in the exchange by which a board joins
     module _ (position : ℕ) where
-      abbrev Replied : Reply → Type 0
+      abbrev Replied : Result Reply Refusal → Type 0
       Replied r = Unsaid (replied_as r position c t h.packet p room)
 
       settled_unsaid : (f : Found) → Unsaid (settled c t position f room)

@@ -6,6 +6,7 @@ use mathlib.Core.Bool.{Bool, true, false}
 use mathlib.Core.List.{List}
 use lib.Dec.{eqb, ltb}
 use borrow.Author.Tests.{eqb-true, ltb-false}
+use Rattle.std.specs.Prelude.{Result, Ok, Err}
 use Rattle.ground.specs.Choose.{choose}
 use Rattle.refusal.specs.Refusal.{Told as Answered}
 use Rattle.refusal.specs.declared.Refusal.TheVariants.{UnexpectedType, BadMethod, NotAwaited, NoRoom}
@@ -16,9 +17,10 @@ use Rattle.board.specs.Table.{at}
 use Rattle.routing.specs.Route.{route_of}
 use Rattle.routing.proofs.Theorems.{route_host, kinds_route}
 use Rattle.message.specs.Message.{to_board}
+use Rattle.refusal.specs.declared.Refusal.{Refusal}
 use Rattle.accept.specs.Accept.{request_type, heard_after_offer}
 use Rattle.accept.specs.declared.Heard.{Heard}
-use Rattle.accept.specs.declared.Heard.TheVariants.{Deliver, Route, Refused}
+use Rattle.accept.specs.declared.Heard.TheVariants.{Deliver, Route}
 use Rattle.accept.proofs.Requests.{offer_takes, list_refuses, forward_refuses, return_refuses, search_refuses, identify_refuses, assign_refuses}
 use Rattle.coordinator.specs.declared.Coordinator.{Coordinator}
 use Rattle.coordinator.specs.declared.Exchange.{Exchange}
@@ -102,14 +104,14 @@ module _ (c : Coordinator) (t : List Node) (received : List ℕ) (request : requ
   offered_goes : (b q : ℕ) (ack : Bool) → Asked b → Goes (taken_as (heard_after_offer h.message h.method ack) Offer b q c t h (payload received) room)
   offered_goes b q ack (one, route) =
       rw (offer_takes h.message request h.method ack)
-      (by_choice Takes (ltb 3 h.method) (Refused BadMethod) (choose (eqb h.method 0) Deliver Route) (λ _. never_accepted c t BadMethod)
-      (λ _. by_choice Takes (eqb h.method 0) Deliver Route (λ e. acking_goes b delivers (with_phase c Resting) (λ u. subst (λ (x : ℕ). Forwards (with_phase c Resting) u then x by) (nowhere e) (rested_forwards c u then by)))
+      (by_choice Takes (ltb 3 h.method) (Err BadMethod) (Ok (choose (eqb h.method 0) Deliver Route)) (λ _. never_accepted c t BadMethod)
+      (λ _. by_choice (λ v. Takes (Ok v)) (eqb h.method 0) Deliver Route (λ e. acking_goes b delivers (with_phase c Resting) (λ u. subst (λ (x : ℕ). Forwards (with_phase c Resting) u then x by) (nowhere e) (rested_forwards c u then by)))
       (λ _. acking_goes b transmits (routed c h (payload received) b (way b)) (λ u. subst (Forwards on u then to) one (subst (λ (x : ℕ). Forwards on u then x b) route (routed_forwards c u h (payload received) b (way b) then))))))
     where
       on : Coordinator
       on = routed c h (payload received) b (way b)
 
-      Takes : Heard → Type 0
+      Takes : Result Heard Refusal → Type 0
       Takes x = Goes (taken_as x Offer b q c t h (payload received) room)
 
       nowhere : eqb h.method 0 ≡ true → 0 ≡ to

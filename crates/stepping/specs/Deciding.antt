@@ -2,6 +2,7 @@
 use Rattle.std.specs.Prelude.{ℕ, ◌≡◌, List, length}
 use Rattle.ground.specs.Bytes.{laid}
 use Rattle.board.specs.declared.Node.{Node}
+use Rattle.board.specs.declared.Columns.{Columns}
 use Rattle.board.specs.Table.{at}
 use Rattle.coordinator.specs.declared.Coordinator.{Coordinator}
 use Rattle.look.specs.declared.Seen.{Seen}
@@ -17,17 +18,17 @@ abbrev pub Beside : Node → List ℕ → Coordinator → List Node → Type 0
 Beside node payload c t = (node ≡ at t c.stand.board) × (payload ≡ c.kept.payload)
 
 -- and the columns
-abbrev pub Known : Node → List ℕ → List ℕ → List ℕ → List ℕ → List ℕ → Coordinator → List Node → Type 0
-Known node payload kinds indexes versions macs c t = Beside node payload c t × OfColumns kinds indexes versions macs c t
+abbrev pub Known : Node → List ℕ → Columns → Coordinator → List Node → Type 0
+Known node payload columns c t = Beside node payload c t × OfColumns columns c t
 
 -- the change, made, shows what the step shows, and the output that was lent holds what the step writes
-abbrev pub DecidesStep : Seen → Node → List ℕ → List ℕ → List ℕ → List ℕ → List ℕ → Event → List ℕ → Change → List ℕ → List ℕ → Type 0
-DecidesStep s node payload kinds indexes versions macs event b x before after =
-    (c : Coordinator) (t : List Node) → Sees s kinds indexes versions macs c t → Beside node payload c t
+abbrev pub DecidesStep : Seen → Node → List ℕ → Columns → Event → List ℕ → Change → List ℕ → List ℕ → Type 0
+DecidesStep s node payload columns event b x before after =
+    (c : Coordinator) (t : List Node) → Sees s columns c t → Beside node payload c t
     → (applied x b c t ≡ shows (step_of c t event b (length before))) × (after ≡ laid (step_of c t event b (length before)).bytes before)
 
 -- the same of any number of records: those that are not forty need not be seen
-abbrev pub DecidesCounted : ℕ → Seen → Node → List ℕ → List ℕ → List ℕ → List ℕ → List ℕ → Event → List ℕ → Change → List ℕ → List ℕ → Type 0
-DecidesCounted count s node payload kinds indexes versions macs event b x before after =
-    (c : Coordinator) (t : List Node) → length t ≡ count → (count ≡ 40 → Sees s kinds indexes versions macs c t × Beside node payload c t)
+abbrev pub DecidesCounted : ℕ → Seen → Node → List ℕ → Columns → Event → List ℕ → Change → List ℕ → List ℕ → Type 0
+DecidesCounted count s node payload columns event b x before after =
+    (c : Coordinator) (t : List Node) → length t ≡ count → (count ≡ 40 → Sees s columns c t × Beside node payload c t)
     → (applied x b c t ≡ shows (step_of c t event b (length before))) × (after ≡ laid (step_of c t event b (length before)).bytes before)

@@ -6,14 +6,16 @@ ghost use Rattle.steps.specs.Step.{step_of};
 ghost use Rattle.change.specs.Decides.{Takes};
 ghost use Rattle.stepping.specs.Deciding.{Known, DecidesStep, DecidesCounted};
 
-use board::Node;
+use board::{Columns, Node};
 use change::Change;
 use look::Seen;
 use refusal::Refusal;
 use steps::Event;
 
+// The three functions below hand on the same: each tests one thing more, and the clause of the next says what it takes for tested.
+
 // As many records as a table has.
-const RECORDS: usize = 40;
+pub const RECORDS: usize = 40;
 
 // What a step on fit records decides on. Received bytes are looked at by the event Frame alone, and the output is written
 // by Turn, Frame and Discover alone.
@@ -21,15 +23,12 @@ fn deciding(
     seen: Seen,
     node: Node,
     payload: &[u8],
-    kinds: &[u8; 40],
-    indexes: &[u8; 40],
-    versions: &[u8; 40],
-    macs: &[u64; 40],
+    columns: &Columns,
     event: Event,
     received: &[u8],
     out: &mut [u8],
 ) -> Change
-    ensures { Takes seen (Known node payload.now kinds.now indexes.now versions.now macs.now) received.now (λ c t. step_of c t event received.now (length out.old)) result out.old out.new }
+    ensures { Takes seen (Known node payload.now columns.now) received.now (λ c t. step_of c t event received.now (length out.old)) result out.old out.new }
 {
     match event {
         Event::Join {
@@ -37,11 +36,11 @@ fn deciding(
             mac,
             session,
             version,
-        } => join::join(seen, kinds, versions, macs, kind, mac, session, version),
-        Event::Turn => turn::turn(seen, payload, kinds, indexes, versions, out),
-        Event::Frame => receive::receive(seen, node, kinds, versions, macs, received, out),
-        Event::Quiet => quiet::quiet(seen, node, kinds),
-        Event::Discover => seek::discover(seen, kinds, out),
+        } => join::join(seen, columns, kind, mac, session, version),
+        Event::Turn => turn::turn(seen, payload, columns, out),
+        Event::Frame => receive::receive(seen, node, columns, received, out),
+        Event::Quiet => quiet::quiet(seen, node, &columns.kinds),
+        Event::Discover => seek::discover(seen, &columns.kinds, out),
     }
 }
 
@@ -51,22 +50,17 @@ fn decide(
     seen: Seen,
     node: Node,
     payload: &[u8],
-    kinds: &[u8; 40],
-    indexes: &[u8; 40],
-    versions: &[u8; 40],
-    macs: &[u64; 40],
+    columns: &Columns,
     event: Event,
     received: &[u8],
     out: &mut [u8],
 ) -> Change
-    ensures { DecidesStep seen node payload.now kinds.now indexes.now versions.now macs.now event received.now result out.old out.new }
+    ensures { DecidesStep seen node payload.now columns.now event received.now result out.old out.new }
 {
-    if !look::fits(seen, kinds, indexes, versions, macs) {
+    if !look::fits(seen, columns) {
         return change::refusing(Refusal::StateUnfit);
     }
-    deciding(
-        seen, node, payload, kinds, indexes, versions, macs, event, received, out,
-    )
+    deciding(seen, node, payload, columns, event, received, out)
 }
 
 // What a step decides on over any number of records, told how many there are: those that are not forty are refused.
@@ -75,20 +69,15 @@ pub fn counted(
     seen: Seen,
     node: Node,
     payload: &[u8; 240],
-    kinds: &[u8; 40],
-    indexes: &[u8; 40],
-    versions: &[u8; 40],
-    macs: &[u64; 40],
+    columns: &Columns,
     event: Event,
     received: &[u8],
     out: &mut [u8],
 ) -> Change
-    ensures { DecidesCounted count seen node payload.now kinds.now indexes.now versions.now macs.now event received.now result out.old out.new }
+    ensures { DecidesCounted count seen node payload.now columns.now event received.now result out.old out.new }
 {
     if count != RECORDS {
         return change::refusing(Refusal::StateUnfit);
     }
-    decide(
-        seen, node, payload, kinds, indexes, versions, macs, event, received, out,
-    )
+    decide(seen, node, payload, columns, event, received, out)
 }

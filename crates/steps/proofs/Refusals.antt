@@ -6,6 +6,7 @@ use mathlib.Core.Logic.{◌⊎◌, inl, inr}
 use mathlib.Core.Bool.{Bool, true, false}
 use mathlib.Core.List.{List, [], ◌∷◌}
 use lib.Dec.{ltb}
+use Rattle.std.specs.Prelude.{Result, Ok, Err}
 use Rattle.ground.specs.Choose.{choose}
 use Rattle.ground.specs.Bytes.{laid}
 use Rattle.refusal.specs.Refusal.{Told, ruled}
@@ -18,9 +19,9 @@ use Rattle.board.specs.declared.Node.{Node}
 use Rattle.board.specs.Table.{at}
 use Rattle.board.specs.Round.{next_listed}
 use Rattle.accept.specs.declared.Heard.{Heard}
-use Rattle.accept.specs.declared.Heard.TheVariants.{Ack, Echo, Deliver, Route, Answer, Refused}
+use Rattle.accept.specs.declared.Heard.TheVariants.{Ack, Echo, Deliver, Route, Answer}
 use Rattle.accept.specs.declared.Reply.{Reply}
-use Rattle.accept.specs.declared.Reply.TheVariants.{Discovered, Present as AckCame, Identified, Assigned, Refused as NotTaken}
+use Rattle.accept.specs.declared.Reply.TheVariants.{Discovered, Present as AckCame, Identified, Assigned}
 use Rattle.coordinator.specs.declared.Coordinator.{Coordinator}
 use Rattle.coordinator.specs.declared.Exchange.{Exchange}
 use Rattle.coordinator.specs.declared.Exchange.TheVariants.{Offer, List as Listing, Forward, Return}
@@ -68,20 +69,20 @@ module _ (c : Coordinator) (t : List Node) where
   plain_acked Forward board requester u = refl
   plain_acked Return board requester u = refl
 
-  plain_taken : (heard : Heard) (exchange : Exchange) (board requester : ℕ) (h : Header) (p : List ℕ) (room : ℕ) → Plain c t (taken_as heard exchange board requester c t h p room)
-  plain_taken Ack exchange board requester h p room = inl (plain_acked exchange board requester _)
-  plain_taken Echo exchange board requester h p room = plain_acking board room transmits _ refl
-  plain_taken Deliver exchange board requester h p room = plain_acking board room delivers _ refl
-  plain_taken Route exchange board requester h p room = plain_acking board room transmits _ refl
-  plain_taken Answer exchange board requester h p room = plain_acking board room transmits _ refl
-  plain_taken (Refused r) exchange board requester h p room = refusing r
+  plain_taken : (heard : Result Heard Refusal) (exchange : Exchange) (board requester : ℕ) (h : Header) (p : List ℕ) (room : ℕ) → Plain c t (taken_as heard exchange board requester c t h p room)
+  plain_taken (Ok Ack) exchange board requester h p room = inl (plain_acked exchange board requester _)
+  plain_taken (Ok Echo) exchange board requester h p room = plain_acking board room transmits _ refl
+  plain_taken (Ok Deliver) exchange board requester h p room = plain_acking board room delivers _ refl
+  plain_taken (Ok Route) exchange board requester h p room = plain_acking board room transmits _ refl
+  plain_taken (Ok Answer) exchange board requester h p room = plain_acking board room transmits _ refl
+  plain_taken (Err r) exchange board requester h p room = refusing r
 
-  plain_replied : (reply : Reply) (position packet : ℕ) (p : List ℕ) (room : ℕ) → Plain c t (replied_as reply position c t packet p room)
-  plain_replied Discovered position packet p room = plain_choice _ _ _ (inl refl) (inl refl)
-  plain_replied AckCame position packet p room = inl refl
-  plain_replied Identified position packet p room = plain_choice (ltb room 29) _ _ (refusing NoRoom) (inl refl)
-  plain_replied Assigned position packet p room = plain_choice (ltb room 29) _ _ (refusing NoRoom) (inl refl)
-  plain_replied (NotTaken r) position packet p room = refusing r
+  plain_replied : (reply : Result Reply Refusal) (position packet : ℕ) (p : List ℕ) (room : ℕ) → Plain c t (replied_as reply position c t packet p room)
+  plain_replied (Ok Discovered) position packet p room = plain_choice _ _ _ (inl refl) (inl refl)
+  plain_replied (Ok AckCame) position packet p room = inl refl
+  plain_replied (Ok Identified) position packet p room = plain_choice (ltb room 29) _ _ (refusing NoRoom) (inl refl)
+  plain_replied (Ok Assigned) position packet p room = plain_choice (ltb room 29) _ _ (refusing NoRoom) (inl refl)
+  plain_replied (Err r) position packet p room = refusing r
 
   plain_seek : (part : Part) (position : ℕ) → Plain c t (quiet_in_seek part position c t)
   plain_seek Search position = inl refl

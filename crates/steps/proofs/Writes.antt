@@ -10,8 +10,8 @@ use Rattle.ground.specs.Choose.{choose}
 use Rattle.refusal.specs.Refusal.{refuses, gives}
 use Rattle.refusal.specs.declared.Refusal.TheVariants.{NoRoom}
 use Rattle.frame.specs.declared.Header.{Header}
-use Rattle.frame.specs.declared.Writing.{Writing}
-use Rattle.frame.specs.declared.Writing.TheVariants.{Written, Refused as NotWritten}
+use Rattle.frame.specs.Frame.{Writing}
+use Rattle.std.specs.Prelude.{Ok, Err}
 use Rattle.frame.specs.Frame.{frame_of, told_written}
 use Rattle.frame.proofs.RoundTrip.{long}
 use Rattle.frame.proofs.Told.{same_written}
@@ -26,8 +26,8 @@ use Rattle.steps.specs.After.{After, Shown, shown, shows, leaving, refused, Leav
 
 -- what the caller is shown, by what the writing of the frame gave
 abbrev pub shown_as : Writing → Coordinator → List Node → After → Shown
-shown_as (Written n) c t a = leaving a.coordinator a.nodes a.says n a.joined a.dropped
-shown_as (NotWritten q) c t a = shows (refused c t q)
+shown_as (Ok n) c t a = leaving a.coordinator a.nodes a.says n a.joined a.dropped
+shown_as (Err q) c t a = shows (refused c t q)
 
 -- a writing of a frame whose payload is not too long, shown as it came out, leaves a step that has the frame as its bytes, or 11
 module _ (h : Header) (p : List ℕ) (small : length p ≤ 240) (c : Coordinator) (t : List Node) (a : After) (frame : a.bytes ≡ frame_of h p) (r : Stepped) (before after : List ℕ) where
@@ -39,8 +39,8 @@ module _ (h : Header) (p : List ℕ) (small : length p ≤ 240) (c : Coordinator
       told_as v k = e ∙ ap (λ (x : Writing). shown_as x c t a) (same_written w v k)
 
       go : (b : Bool) → told_written w ≡ choose b (refuses NoRoom) (gives ((12 + length p) ∷ [])) → after ≡ laid (choose b [] (frame_of h p)) before → Leaves (choose b (refused c t NoRoom) a) r before after
-      go true k l = (told_as (NotWritten NoRoom) k, l)
-      go false k l = (told_as (Written (12 + length p)) k ∙ ap (λ (n : ℕ). leaving a.coordinator a.nodes a.says n a.joined a.dropped) (sym (ap length frame ∙ long h p)), l ∙ ap (λ (b : List ℕ). laid b before) (sym frame))
+      go true k l = (told_as (Err NoRoom) k, l)
+      go false k l = (told_as (Ok (12 + length p)) k ∙ ap (λ (n : ℕ). leaving a.coordinator a.nodes a.says n a.joined a.dropped) (sym (ap length frame ∙ long h p)), l ∙ ap (λ (b : List ℕ). laid b before) (sym frame))
 
 -- so it is of an ACK, whose frame has 29 bytes
 pub leaves_ack_written : (s : Setup) (nodes : List Node) (board version : ℕ) (c : Coordinator) (t : List Node) (a : After) → a.bytes ≡ signed_frame s nodes board version ack_code → (r : Stepped) (before after : List ℕ) (w : Writing) → Sends (signed_header s board version (at nodes board).index) (signed s ack_code) w before after → shown r ≡ shown_as w c t a → Leaves (choose (ltb (length before) 29) (refused c t NoRoom) a) r before after

@@ -1,4 +1,5 @@
 pub mod After
+pub mod Outcome
 pub mod Start
 pub mod Hear
 pub mod Join

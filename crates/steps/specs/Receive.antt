@@ -1,5 +1,5 @@
 -- Frame: bytes received (01, "Frame (received bytes)").
-use Rattle.std.specs.Prelude.{ℕ, ◌+◌, Bool, true, false, ◌&&◌, not, List, [], ◌∷◌, ◌++◌, length, take, drop, replicate, eqb, ltb}
+use Rattle.std.specs.Prelude.{ℕ, ◌+◌, Bool, true, false, ◌&&◌, not, List, [], ◌∷◌, ◌++◌, length, take, drop, replicate, eqb, ltb, Result, Ok, Err}
 use Rattle.ground.specs.Choose.{choose}
 use Rattle.ground.specs.Bytes.{laid}
 use Rattle.refusal.specs.Refusal.{Told, ruled}
@@ -17,7 +17,7 @@ use Rattle.nodelist.specs.List.{same_list}
 use Rattle.routing.specs.Route.{route_of}
 use Rattle.message.specs.Message.{signed_frame, ack_code}
 use Rattle.accept.specs.declared.Heard.{Heard}
-use Rattle.accept.specs.declared.Heard.TheVariants.{Ack, Echo, Deliver, Route, Answer, Refused}
+use Rattle.accept.specs.declared.Heard.TheVariants.{Ack, Echo, Deliver, Route, Answer}
 use Rattle.accept.specs.Accept.{is_ack, ack_session, heard_after_offer, heard_after_list, heard_after_forward, heard_after_return}
 use Rattle.accept.specs.Replies.{reply_type}
 use Rattle.coordinator.specs.declared.Coordinator.{Coordinator}
@@ -75,7 +75,7 @@ abbrev pub is_stray : Phase → Kept → ℕ → Bool
 is_stray phase m message = reply_type message && not (is_seeking phase) && not (answers_forward phase m message)
 
 -- what bytes are to the wait that is on: what it takes, or 7, 8, 9 (01, "Frame")
-abbrev pub heard_in : Exchange → ℕ → Bool → Coordinator → List Node → Header → List ℕ → Heard
+abbrev pub heard_in : Exchange → ℕ → Bool → Coordinator → List Node → Header → List ℕ → Result Heard Refusal
 heard_in Offer board acked c t h p = heard_after_offer h.message h.method (is_ack (at t board).mac p)
 heard_in Listing board acked c t h p = heard_after_list h.message (same_list (at t board).version c.setup.internal t p)
 heard_in Forward board acked c t h p = heard_after_forward h.message c.kept.message (is_ack (at t board).mac p) acked
@@ -117,13 +117,13 @@ acked Forward board requester c t = accepted (with_phase c (Awaiting board Forwa
 acked Return board requester c t = accepted (with_phase c Resting) t rests []
 
 -- what each accepted frame does (01, "Frame"): an ACK; the list's echo; a request for the host; a request to route; the response to a forward, which is to be returned
-abbrev pub taken_as : Heard → Exchange → ℕ → ℕ → Coordinator → List Node → Header → List ℕ → ℕ → After
-taken_as Ack exchange board requester c t h p room = acked exchange board requester c (hear_ack t board (ack_session p))
-taken_as Echo exchange board requester c t h p room = acking c t board room transmits (with_phase c Resting)
-taken_as Deliver exchange board requester c t h p room = acking c t board room delivers (with_phase c Resting)
-taken_as Route exchange board requester c t h p room = acking c t board room transmits (routed c h p board (route_of t c.setup.k board h.method h.parameter1))
-taken_as Answer exchange board requester c t h p room = acking c t board room transmits (with_phase (keeping c (kept_of h p)) (ReturnDue requester))
-taken_as (Refused r) exchange board requester c t h p room = refused c t r
+abbrev pub taken_as : Result Heard Refusal → Exchange → ℕ → ℕ → Coordinator → List Node → Header → List ℕ → ℕ → After
+taken_as (Ok Ack) exchange board requester c t h p room = acked exchange board requester c (hear_ack t board (ack_session p))
+taken_as (Ok Echo) exchange board requester c t h p room = acking c t board room transmits (with_phase c Resting)
+taken_as (Ok Deliver) exchange board requester c t h p room = acking c t board room delivers (with_phase c Resting)
+taken_as (Ok Route) exchange board requester c t h p room = acking c t board room transmits (routed c h p board (route_of t c.setup.k board h.method h.parameter1))
+taken_as (Ok Answer) exchange board requester c t h p room = acking c t board room transmits (with_phase (keeping c (kept_of h p)) (ReturnDue requester))
+taken_as (Err r) exchange board requester c t h p room = refused c t r
 
 abbrev pub taken_in : Phase → Coordinator → List Node → Header → List ℕ → ℕ → After
 taken_in Resting c t h p room = refused c t NotAwaited

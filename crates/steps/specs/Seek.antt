@@ -1,6 +1,7 @@
 -- The exchange by which a board joins (02, C-11; 000, 11.11; 003, 6.6 to 6.8): what its parts are to a turn, a frame and a quiet.
-use Rattle.std.specs.Prelude.{ℕ, ◌/◌, ◌%◌, Bool, true, false, List, [], eqb, ltb}
+use Rattle.std.specs.Prelude.{ℕ, ◌/◌, ◌%◌, Bool, true, false, List, [], eqb, ltb, Result, Ok, Err}
 use Rattle.ground.specs.Choose.{choose}
+use Rattle.refusal.specs.declared.Refusal.{Refusal}
 use Rattle.refusal.specs.declared.Refusal.TheVariants.{NotAwaited, NotWaiting, NoRoom}
 use Rattle.frame.specs.declared.Header.{Header}
 use Rattle.frame.specs.Frame.{byte}
@@ -11,7 +12,7 @@ use Rattle.setup.specs.declared.Setup.{Setup}
 use Rattle.setup.specs.Setup.{address, subnet_of}
 use Rattle.message.specs.Message.{signed_frame, ack_code}
 use Rattle.accept.specs.declared.Reply.{Reply}
-use Rattle.accept.specs.declared.Reply.TheVariants.{Discovered, Present as AckCame, Identified, Assigned, Refused}
+use Rattle.accept.specs.declared.Reply.TheVariants.{Discovered, Present as AckCame, Identified, Assigned}
 use Rattle.accept.specs.Replies.{mac_after, is_assignment, heard_in_search, heard_in_identify, heard_in_assign}
 use Rattle.coordinator.specs.declared.Coordinator.{Coordinator}
 use Rattle.coordinator.specs.declared.Found.{Found}
@@ -91,21 +92,21 @@ settled c t position f room =
     choose (ltb room 29) (refused c t NoRoom) (acknowledged c.setup position f.version (outcome c t position f))
 
 -- what a frame is to the part that waits: what it takes, or 7, 8 (02, C-11)
-abbrev pub reply_in : Part → ℕ → Coordinator → Header → List ℕ → Reply
+abbrev pub reply_in : Part → ℕ → Coordinator → Header → List ℕ → Result Reply Refusal
 reply_in Search position c h p = heard_in_search h.message p
-reply_in IdentifyDue position c h p = Refused NotAwaited
+reply_in IdentifyDue position c h p = Err NotAwaited
 reply_in Identify position c h p = heard_in_identify h.message p false
 reply_in Present position c h p = heard_in_identify h.message p true
-reply_in AssignDue position c h p = Refused NotAwaited
+reply_in AssignDue position c h p = Err NotAwaited
 reply_in Assign position c h p = heard_in_assign h.message (is_assignment (address c.setup position) (subnet_of c.setup c.found.version) c.found.mac c.found.session p)
 
 -- what each of them does, with the packet number and payload received (02, C-11)
-abbrev pub replied_as : Reply → ℕ → Coordinator → List Node → ℕ → List ℕ → ℕ → After
-replied_as Discovered position c t packet p room = answered c t (discovered packet p)
-replied_as AckCame position c t packet p room = present c t position (mac_after p)
-replied_as Identified position c t packet p room = settled c t position (identified c.found.version p) room
-replied_as Assigned position c t packet p room = settled c t position c.found room
-replied_as (Refused r) position c t packet p room = refused c t r
+abbrev pub replied_as : Result Reply Refusal → ℕ → Coordinator → List Node → ℕ → List ℕ → ℕ → After
+replied_as (Ok Discovered) position c t packet p room = answered c t (discovered packet p)
+replied_as (Ok AckCame) position c t packet p room = present c t position (mac_after p)
+replied_as (Ok Identified) position c t packet p room = settled c t position (identified c.found.version p) room
+replied_as (Ok Assigned) position c t packet p room = settled c t position c.found room
+replied_as (Err r) position c t packet p room = refused c t r
 
 -- a frame in the exchange
 abbrev pub sought_in : Part → ℕ → Coordinator → List Node → Header → List ℕ → ℕ → After

@@ -4,6 +4,7 @@
 
 ghost use Rattle.std.specs.Prelude.{◌≡◌};
 ghost use Rattle.steps.specs.Seek.{is_waiting};
+ghost use Rattle.steps.specs.Outcome.{plain};
 
 use board::Table;
 use coordinator::{Coordinator, Exchange, Part};
@@ -25,16 +26,17 @@ pub enum Event {
     Discover,
 }
 
-// The waits of the exchange by which a board joins.
+// The waits of the exchange by which a board joins, by the numbers that C is told, which follow those of `Exchange`.
 #[derive(Clone, Copy)]
 pub enum Seek {
-    Search,
+    Search = 5,
     Identify,
     Assign,
 }
 
 // What the panel now does. It waits for a listed board in a kind of exchange, or, in the exchange by which a board joins,
 // for whoever is or will be at the address of a position, listed or not.
+// A refusal is one of them, as the rule book counts them and the theorems over any series speak of them (`told`): so this is no Result.
 #[derive(Clone, Copy)]
 pub enum Answer {
     Wait(usize, Exchange),
@@ -45,13 +47,28 @@ pub enum Answer {
     Refuse(Refusal),
 }
 
-// The answer, the count of bytes written, the position joined and the position dropped, 0 for none.
+// The answer, the count of bytes written, the position joined and the position dropped, 0 for none: so the rules say them
+// (`leaving`), and so C is told.
 #[derive(Clone, Copy)]
 pub struct Outcome {
     pub answer: Answer,
     pub written: usize,
     pub joined: usize,
     pub dropped: usize,
+}
+
+// The outcome of an answer with which nothing is written, nobody joins and nobody is dropped.
+impl From<Answer> for Outcome {
+    ghost from_gives = { λ answer outcome. outcome ≡ plain answer };
+
+    fn from(answer: Answer) -> Outcome {
+        Outcome {
+            answer,
+            written: 0,
+            joined: 0,
+            dropped: 0,
+        }
+    }
 }
 
 // What a step leaves.
@@ -66,12 +83,5 @@ pub struct Stepped {
 pub fn is_waiting(part: Part) -> bool
     ensures { result ≡ is_waiting part }
 {
-    match part {
-        Part::Search => true,
-        Part::IdentifyDue => false,
-        Part::Identify => true,
-        Part::Present => true,
-        Part::AssignDue => false,
-        Part::Assign => true,
-    }
+    !matches!(part, Part::IdentifyDue | Part::AssignDue)
 }

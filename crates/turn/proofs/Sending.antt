@@ -10,8 +10,8 @@ use types.Run.{OneOf, miss}
 use denote.Enum.Declared.{tag_of}
 use Rattle.ground.proofs.Choices.{choose_yes, choose_no}
 use Rattle.frame.specs.declared.Header.{Header}
-use Rattle.frame.specs.declared.Writing.{Writing}
-use Rattle.frame.specs.declared.Writing.TheVariants.{Written, Refused as NotWritten}
+use Rattle.frame.specs.Frame.{Writing}
+use Rattle.std.specs.Prelude.{Ok, Err}
 use Rattle.board.specs.declared.Node.{Node}
 use Rattle.board.specs.Round.{next_listed}
 use Rattle.message.specs.Message.{Sends}
@@ -51,8 +51,8 @@ module _ (d : Due) (p : List ℕ) (c : Coordinator) (t : List Node) (before afte
   does_sent w {x} next position edit answer e em en et ea sends eh ep = leaves_written d.header d.payload small c t (sent d) refl (made x p c t) before after w (rw (eh, ep) at sends) (as_due w e)
     where
       as_due : (v : Writing) → x ≡ sent_as v next position edit answer → applied x p c t ≡ shown_as v c t (sent d)
-      as_due (Written n) k = makes_edit p c t position edit answer n 0 0 k ∙ (λ i. leaving ((ap (λ (y : Move). moved y p c) em ∙ en) i) (et i) (ea i) n 0 0)
-      as_due (NotWritten q) k = makes_refusal p c t q k
+      as_due (Ok n) k = makes_edit p c t position edit answer n 0 0 k ∙ (λ i. leaving ((ap (λ (y : Move). moved y p c) em ∙ en) i) (et i) (ea i) n 0 0)
+      as_due (Err q) k = makes_refusal p c t q k
 
 module _ (c : Coordinator) (t : List Node) where
   -- the list is due where a position is owed it, an offer where none is

@@ -2,9 +2,12 @@
 use Rattle.std.specs.Prelude.{ℕ, ◌+◌, ◌≤◌, ◌≡◌, false, List, length, ltb}
 use Rattle.ground.specs.Choose.{choose}
 use Rattle.refusal.specs.declared.Refusal.TheVariants.{NoRoom}
-use Rattle.frame.specs.declared.Writing.{Writing}
-use Rattle.frame.specs.declared.Writing.TheVariants.{Written, Refused as NotWritten}
+use Rattle.frame.specs.Frame.{Writing}
+use Rattle.std.specs.Prelude.{Ok, Err}
 use Rattle.board.specs.declared.Node.{Node}
+use Rattle.board.specs.declared.Columns.{Columns}
+use Rattle.board.specs.Columns.{column_at}
+use Rattle.message.specs.declared.Addressee.{Addressee}
 use Rattle.coordinator.specs.declared.Coordinator.{Coordinator}
 use Rattle.steps.specs.declared.Answer.{Answer}
 use Rattle.steps.specs.declared.Answer.TheVariants.{Refuse}
@@ -23,8 +26,12 @@ sending d c t room = choose (ltb room (12 + length d.payload)) (refused c t NoRo
 
 -- the change that a transmission makes, by what its writing gave: the coordinator moves on to the wait and one record is edited, or it is refused and nothing changes
 abbrev pub sent_as : Writing → Move → ℕ → Edit → Answer → Change
-sent_as (Written n) next position edit answer = changing next position edit false answer n 0 0
-sent_as (NotWritten q) next position edit answer = changing Stay 0 Nothing false (Refuse q) 0 0 0
+sent_as (Ok n) next position edit answer = changing next position edit false answer n 0 0
+sent_as (Err q) next position edit answer = changing Stay 0 Nothing false (Refuse q) 0 0 0
+
+-- whom a message of ours goes to, by the columns: a position, with the version and the stored index of the board there (02, C-13 and C-15)
+abbrev pub addressed : Columns → ℕ → Addressee
+addressed s board = record { board = board; version = column_at s.versions board; index = column_at s.indexes board }
 
 -- the payload is the one that is kept, and no longer than a frame takes
 abbrev pub OfKept : List ℕ → Coordinator → List Node → Type 0

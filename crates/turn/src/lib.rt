@@ -7,29 +7,37 @@ ghost use Rattle.message.specs.Message.{to_board, Sends};
 ghost use Rattle.coordinator.specs.declared.Exchange.TheVariants.{Forward};
 ghost use Rattle.coordinator.specs.Phase.{phase_of};
 ghost use Rattle.coordinator.specs.State.{kept_as};
-ghost use Rattle.look.specs.Seen.{OfTypes, OfIndexes, OfVersions};
+ghost use Rattle.look.specs.Seen.{OfIndexes, OfVersions, OfSent};
 ghost use Rattle.steps.specs.Seek.{is_waiting};
 ghost use Rattle.steps.specs.Turn.{carried_header, due_carried, due_list, due_offer, due_own, due_identify, due_assign, due_seek, due_in, is_awaiting, is_due, turn_of};
 ghost use Rattle.change.specs.declared.Move.TheVariants.{To};
 ghost use Rattle.change.specs.Decides.{Decides};
-ghost use Rattle.turn.specs.Sending.{sending, sent_as, OfKept};
+ghost use Rattle.turn.specs.Sending.{sending, sent_as, addressed, OfKept};
 
+use board::Columns;
 use change::{Change, Edit, Move};
 use coordinator::{Exchange, Head, Part, Phase};
-use frame::{Header, Writing};
+use frame::Header;
 use look::Seen;
+use message::Addressee;
 use refusal::Refusal;
 use setup::Setup;
 use steps::{Answer, Seek};
 
 // The change that a transmission makes. Where it was written it says what the panel now waits for, how the coordinator moves
 // and what is done to the record at a position; where it was not, nothing changes.
-fn sent(writing: Writing, next: Move, position: usize, edit: Edit, answer: Answer) -> Change
+fn sent(
+    writing: Result<usize, Refusal>,
+    next: Move,
+    position: usize,
+    edit: Edit,
+    answer: Answer,
+) -> Change
     ensures { result ≡ sent_as writing next position edit answer }
 {
     match writing {
-        Writing::Written(n) => change::changing(next, position, edit, answer, n),
-        Writing::Refused(refusal) => change::refusing(refusal),
+        Ok(n) => change::changing(next, position, edit, answer, n),
+        Err(refusal) => change::refusing(refusal),
     }
 }
 
@@ -37,17 +45,27 @@ fn sent(writing: Writing, next: Move, position: usize, edit: Edit, answer: Answe
 fn waiting(board: usize, exchange: Exchange, requester: usize) -> Move
     ensures { result ≡ To (Phase.Awaiting board exchange requester false) }
 {
-    let phase = Phase::Awaiting {
-        board: board,
-        exchange: exchange,
-        requester: requester,
+    Move::To(Phase::Awaiting {
+        board,
+        exchange,
+        requester,
         acked: false,
-    };
-    Move::To(phase)
+    })
+}
+
+// Whom a message of ours goes to, by the columns.
+fn addressed(columns: &Columns, board: usize) -> Addressee
+    ensures { result ≡ addressed columns.now board }
+{
+    Addressee {
+        board,
+        version: board::byte_at(&columns.versions, board),
+        index: board::byte_at(&columns.indexes, board),
+    }
 }
 
 // Writes the message that is kept to a board. Its length is cut at the payload's, so that no length is out of bounds; whom
-// it goes to and comes from is for the writer to say.
+// it goes to and comes from is for the writer to say. Parameter 2 is the sender's, so that whom it goes to is no `Addressee`.
 fn write_carried(
     head: Head,
     payload: &[u8],
@@ -56,19 +74,17 @@ fn write_carried(
     version: u8,
     parameter2: u8,
     out: &mut [u8],
-) -> Writing
+) -> Result<usize, Refusal>
     ensures { Sends (to_board setup board version (carried_header (kept_as head payload.now) parameter2)) (take head.length payload.now) result out.old out.new }
 {
     let header = Header {
-        destination: 0,
-        source: 0,
-        subnet: 0,
         method: head.method,
         parameter1: head.parameter,
-        parameter2: parameter2,
+        parameter2,
         kind: head.kind,
         message: head.message,
         packet: head.packet,
+        ..Header::default()
     };
     let n = ground::least(head.length, payload.len());
     message::write_to(setup, board, version, header, &payload[..n], out)
@@ -78,19 +94,24 @@ fn write_carried(
 fn send_carried(
     seen: Seen,
     payload: &[u8],
-    versions: &[u8; 40],
+    columns: &Columns,
     board: usize,
     exchange: Exchange,
     requester: usize,
     parameter2: u8,
     out: &mut [u8],
 ) -> Change
-    ensures { Decides seen (λ c t. OfKept payload.now c t × OfVersions versions.now c t) (λ c t. sending (due_carried c t board exchange requester parameter2) c t (length out.old)) result out.old out.new }
+    ensures { Decides seen (λ c t. OfKept payload.now c t × OfVersions columns.now.versions c t) (λ c t. sending (due_carried c t board exchange requester parameter2) c t (length out.old)) result out.old out.new }
 {
-    let state = seen.state;
-    let version = board::byte_at(versions, board);
+    let version = board::byte_at(&columns.versions, board);
     let writing = write_carried(
-        state.head, payload, seen.setup, board, version, parameter2, out,
+        seen.state.head,
+        payload,
+        seen.setup,
+        board,
+        version,
+        parameter2,
+        out,
     );
     let next = waiting(board, exchange, requester);
     let answer = Answer::Wait(board, exchange);
@@ -101,19 +122,18 @@ fn send_carried(
 fn send_forward(
     seen: Seen,
     payload: &[u8],
-    indexes: &[u8; 40],
-    versions: &[u8; 40],
+    columns: &Columns,
     board: usize,
     requester: usize,
     out: &mut [u8],
 ) -> Change
-    ensures { Decides seen (λ c t. OfKept payload.now c t × OfIndexes indexes.now c t × OfVersions versions.now c t) (λ c t. sending (due_carried c t board Forward requester (at t requester).index) c t (length out.old)) result out.old out.new }
+    ensures { Decides seen (λ c t. OfKept payload.now c t × OfIndexes columns.now.indexes c t × OfVersions columns.now.versions c t) (λ c t. sending (due_carried c t board Forward requester (at t requester).index) c t (length out.old)) result out.old out.new }
 {
-    let index = board::byte_at(indexes, requester);
+    let index = board::byte_at(&columns.indexes, requester);
     send_carried(
         seen,
         payload,
-        versions,
+        columns,
         board,
         Exchange::Forward,
         requester,
@@ -123,81 +143,56 @@ fn send_forward(
 }
 
 // Sends the node list to a board, clearing its mark.
-fn send_list(
-    seen: Seen,
-    kinds: &[u8; 40],
-    indexes: &[u8; 40],
-    versions: &[u8; 40],
-    board: usize,
-    out: &mut [u8],
-) -> Change
-    ensures { Decides seen (λ c t. OfTypes kinds.now c t × OfIndexes indexes.now c t × OfVersions versions.now c t) (λ c t. sending (due_list c t board) c t (length out.old)) result out.old out.new }
+fn send_list(seen: Seen, columns: &Columns, board: usize, out: &mut [u8]) -> Change
+    ensures { Decides seen (OfSent columns.now) (λ c t. sending (due_list c t board) c t (length out.old)) result out.old out.new }
 {
-    let index = board::byte_at(indexes, board);
-    let version = board::byte_at(versions, board);
-    let writing = message::write_list(
-        seen.setup, kinds, versions, seen.top, board, version, index, out,
-    );
+    let to = addressed(columns, board);
+    let writing = message::write_list(seen.setup, columns, seen.top, to, out);
     let next = waiting(board, Exchange::List, 0);
     let answer = Answer::Wait(board, Exchange::List);
     sent(writing, next, board, Edit::Unmarked, answer)
 }
 
 // Offers a board the bus.
-fn send_offer(
-    seen: Seen,
-    indexes: &[u8; 40],
-    versions: &[u8; 40],
-    board: usize,
-    out: &mut [u8],
-) -> Change
-    ensures { Decides seen (λ c t. OfIndexes indexes.now c t × OfVersions versions.now c t) (λ c t. sending (due_offer c t board) c t (length out.old)) result out.old out.new }
+fn send_offer(seen: Seen, columns: &Columns, board: usize, out: &mut [u8]) -> Change
+    ensures { Decides seen (λ c t. OfIndexes columns.now.indexes c t × OfVersions columns.now.versions c t) (λ c t. sending (due_offer c t board) c t (length out.old)) result out.old out.new }
 {
-    let index = board::byte_at(indexes, board);
-    let version = board::byte_at(versions, board);
-    let writing = message::write_signed(seen.setup, board, version, index, 0, out);
+    let to = addressed(columns, board);
+    let writing = message::write_signed(seen.setup, to, 0, out);
     let answer = Answer::Wait(board, Exchange::Offer);
     sent(writing, Move::Offered(board), 0, Edit::Nothing, answer)
 }
 
 // Our own next transmission: the list to the lowest position owed, else an offer to the next listed position. Nobody is
 // listed above the highest listed position, so nobody is looked for there.
-fn send_own(
-    seen: Seen,
-    kinds: &[u8; 40],
-    indexes: &[u8; 40],
-    versions: &[u8; 40],
-    out: &mut [u8],
-) -> Change
-    ensures { Decides seen (λ c t. OfTypes kinds.now c t × OfIndexes indexes.now c t × OfVersions versions.now c t) (λ c t. sending (due_own c t) c t (length out.old)) result out.old out.new }
+fn send_own(seen: Seen, columns: &Columns, out: &mut [u8]) -> Change
+    ensures { Decides seen (OfSent columns.now) (λ c t. sending (due_own c t) c t (length out.old)) result out.old out.new }
 {
-    let state = seen.state;
     let owed = seen.owed;
     if 0 < owed {
-        return send_list(seen, kinds, indexes, versions, owed, out);
+        return send_list(seen, columns, owed, out);
     }
-    let board = board::next_listed(kinds, seen.top, state.last);
-    send_offer(seen, indexes, versions, board, out)
+    let board = board::next_listed(&columns.kinds, seen.top, seen.state.last);
+    send_offer(seen, columns, board, out)
 }
 
 // The coordinator waits in the exchange by which a board joins.
 fn seeking(position: usize, part: Part) -> Move
     ensures { result ≡ To (Phase.Seeking position part) }
 {
-    let phase = Phase::Seeking {
-        position: position,
-        part: part,
-    };
-    Move::To(phase)
+    Move::To(Phase::Seeking { position, part })
 }
 
 // Asks whoever has the address at stake for his ID.
 fn send_identify(seen: Seen, indexes: &[u8; 40], position: usize, out: &mut [u8]) -> Change
     ensures { Decides seen (OfIndexes indexes.now) (λ c t. sending (due_identify c t position) c t (length out.old)) result out.old out.new }
 {
-    let version = seen.state.found.version;
-    let index = board::byte_at(indexes, position);
-    let writing = message::write_identify(seen.setup, position, version, index, out);
+    let to = Addressee {
+        board: position,
+        version: seen.state.found.version,
+        index: board::byte_at(indexes, position),
+    };
+    let writing = message::write_identify(seen.setup, to, out);
     let next = seeking(position, Part::Identify);
     let answer = Answer::Seek(position, Seek::Identify);
     sent(writing, next, 0, Edit::Nothing, answer)
@@ -207,8 +202,7 @@ fn send_identify(seen: Seen, indexes: &[u8; 40], position: usize, out: &mut [u8]
 fn send_assign(seen: Seen, position: usize, out: &mut [u8]) -> Change
     ensures { Decides seen (λ c t. Unit {0}) (λ c t. sending (due_assign c t position) c t (length out.old)) result out.old out.new }
 {
-    let state = seen.state;
-    let found = state.found;
+    let found = seen.state.found;
     let writing = message::write_assign(
         seen.setup,
         position,
@@ -235,27 +229,21 @@ fn send_seek(part: Part, seen: Seen, indexes: &[u8; 40], position: usize, out: &
 
 // The next transmission where no wait is on: a return or a forward that is due, what an exchange by which a board joins has
 // due, else our own. A return's parameter 2 is 0.
-fn send_due(
-    phase: Phase,
-    seen: Seen,
-    payload: &[u8],
-    kinds: &[u8; 40],
-    indexes: &[u8; 40],
-    versions: &[u8; 40],
-    out: &mut [u8],
-) -> Change
+fn send_due(phase: Phase, seen: Seen, payload: &[u8], columns: &Columns, out: &mut [u8]) -> Change
     requires { is_awaiting phase ≡ false }
-    ensures { Decides seen (λ c t. (phase ≡ phase_of c.stand) × (payload.now ≡ c.kept.payload) × OfTypes kinds.now c t × OfIndexes indexes.now c t × OfVersions versions.now c t) (λ c t. sending (due_in phase c t) c t (length out.old)) result out.old out.new }
+    ensures { Decides seen (λ c t. (phase ≡ phase_of c.stand) × (payload.now ≡ c.kept.payload) × OfSent columns.now c t) (λ c t. sending (due_in phase c t) c t (length out.old)) result out.old out.new }
 {
     match phase {
         Phase::ReturnDue { board } => {
-            send_carried(seen, payload, versions, board, Exchange::Return, 0, 0, out)
+            send_carried(seen, payload, columns, board, Exchange::Return, 0, 0, out)
         }
         Phase::ForwardDue { board, requester } => {
-            send_forward(seen, payload, indexes, versions, board, requester, out)
+            send_forward(seen, payload, columns, board, requester, out)
         }
-        Phase::Seeking { position, part } => send_seek(part, seen, indexes, position, out),
-        _ => send_own(seen, kinds, indexes, versions, out),
+        Phase::Seeking { position, part } => {
+            send_seek(part, seen, &columns.indexes, position, out)
+        }
+        _ => send_own(seen, columns, out),
     }
 }
 
@@ -264,20 +252,9 @@ fn is_awaiting(phase: Phase) -> bool
     ensures { result ≡ is_awaiting phase }
 {
     match phase {
-        Phase::Awaiting {
-            board: _,
-            exchange: _,
-            requester: _,
-            acked: _,
-        } => true,
-        Phase::Resting => false,
-        Phase::ForwardDue {
-            board: _,
-            requester: _,
-        } => false,
-        Phase::ReturnDue { board: _ } => false,
-        Phase::Seeking { position: _, part } => steps::is_waiting(part),
-        Phase::Unknown => false,
+        Phase::Awaiting { .. } => true,
+        Phase::Seeking { part, .. } => steps::is_waiting(part),
+        _ => false,
     }
 }
 
@@ -286,42 +263,22 @@ fn is_due(phase: Phase) -> bool
     ensures { result ≡ is_due phase }
 {
     match phase {
-        Phase::Awaiting {
-            board: _,
-            exchange: _,
-            requester: _,
-            acked: _,
-        } => false,
-        Phase::Resting => false,
-        Phase::ForwardDue {
-            board: _,
-            requester: _,
-        } => true,
-        Phase::ReturnDue { board: _ } => true,
-        Phase::Seeking { position: _, part } => !steps::is_waiting(part),
-        Phase::Unknown => false,
+        Phase::ForwardDue { .. } | Phase::ReturnDue { .. } => true,
+        Phase::Seeking { part, .. } => !steps::is_waiting(part),
+        _ => false,
     }
 }
 
 // Writes the panel's next transmission, and waits for the answer to it. The payload is the one that is kept.
-pub fn turn(
-    seen: Seen,
-    payload: &[u8],
-    kinds: &[u8; 40],
-    indexes: &[u8; 40],
-    versions: &[u8; 40],
-    out: &mut [u8],
-) -> Change
-    ensures { Decides seen (λ c t. (payload.now ≡ c.kept.payload) × OfTypes kinds.now c t × OfIndexes indexes.now c t × OfVersions versions.now c t) (λ c t. turn_of c t (length out.old)) result out.old out.new }
+pub fn turn(seen: Seen, payload: &[u8], columns: &Columns, out: &mut [u8]) -> Change
+    ensures { Decides seen (λ c t. (payload.now ≡ c.kept.payload) × OfSent columns.now c t) (λ c t. turn_of c t (length out.old)) result out.old out.new }
 {
-    let state = seen.state;
-    let stand = state.stand;
-    let phase = coordinator::phase_of(stand);
+    let phase = coordinator::phase_of(seen.state.stand);
     if is_awaiting(phase) {
         return change::refusing(Refusal::AwaitingReply);
     }
     if (seen.top == 0) & !is_due(phase) {
         return change::refusing(Refusal::NobodyListed);
     }
-    send_due(phase, seen, payload, kinds, indexes, versions, out)
+    send_due(phase, seen, payload, columns, out)
 }

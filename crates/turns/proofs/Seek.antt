@@ -5,6 +5,7 @@ use mathlib.Core.Path.{◌≡◌, refl, sym}
 use mathlib.Core.Bool.{Bool, true, false, false≢true}
 use mathlib.Core.List.{List, []}
 use lib.Dec.{eqb, ltb}
+use Rattle.std.specs.Prelude.{Result, Err}
 use Rattle.ground.specs.Choose.{choose}
 use Rattle.ground.proofs.Choices.{and_left}
 use Rattle.refusal.specs.Refusal.{Told}
@@ -16,8 +17,8 @@ use Rattle.board.specs.declared.Wanted.TheVariants.{Listed, Owed, Mac}
 use Rattle.board.specs.Table.{at, listed_at}
 use Rattle.board.specs.Wanted.{wants, wanted_at, count_of}
 use Rattle.board.specs.Change.{heard}
+use Rattle.refusal.specs.declared.Refusal.{Refusal}
 use Rattle.accept.specs.declared.Reply.{Reply}
-use Rattle.accept.specs.declared.Reply.TheVariants.{Refused}
 use Rattle.accept.specs.Replies.{mac_after}
 use Rattle.accept.proofs.Replied.{search_replied, identify_replied, assign_replied}
 use Rattle.coordinator.specs.declared.Coordinator.{Coordinator}
@@ -102,10 +103,10 @@ module _ (c : Coordinator) (t : List Node) (h : fits c t ≡ true) where
 
   -- what a frame is in each part
   module _ (position : ℕ) (hd : Header) (p : List ℕ) (room : ℕ) where
-    abbrev Replied : Reply → Type 0
+    abbrev Replied : Result Reply Refusal → Type 0
     Replied r = Moves c t (replied_as r position c t hd.packet p room)
 
-    unexpected : Replied (Refused UnexpectedType)
+    unexpected : Replied (Err UnexpectedType)
     unexpected = refusing c t UnexpectedType
 
     pub sought_moves : (part : Part) → phase_of c.stand ≡ Seeking position part → Moves c t (sought_in part position c t hd p room)

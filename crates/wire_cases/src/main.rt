@@ -2,7 +2,7 @@
 #![tactic(auto)]
 
 use finder::Finding;
-use frame::{Header, Reading, Writing};
+use frame::{Frame, Header};
 use refusal::Refusal;
 use std::io;
 use std::io::{BufWriter, Write};
@@ -10,53 +10,32 @@ use std::io::{BufWriter, Write};
 // The subnet in which the cases are read, but where one says another.
 const SUBNET: u8 = 3;
 
-fn print_text<W: Write>(to: &mut W, text: &[u8]) -> io::Result<()> {
-    to.write_all(text)
-}
-
-fn print_number<W: Write>(to: &mut W, n: u64) -> io::Result<()> {
-    print_text(to, b" ")?;
-    console::write_decimal(to, n)
-}
-
-fn print_byte<W: Write>(to: &mut W, b: u8) -> io::Result<()> {
-    print_text(to, b" ")?;
-    console::write_hex(to, b)
-}
-
 fn print_bytes<W: Write>(to: &mut W, bytes: &[u8]) -> io::Result<()> {
-    let mut i: usize = 0;
-    while i < bytes.len() {
-        print_byte(to, bytes[i])?;
-        i += 1;
+    for b in bytes {
+        to.write_all(b" ")?;
+        console::write_hex(to, *b)?;
     }
     Ok(())
 }
 
 fn print_refusal<W: Write>(to: &mut W, refusal: Refusal) -> io::Result<()> {
-    print_text(to, b" refused")?;
-    print_number(to, refusal::number(refusal) as u64)
+    write!(to, " refused {}", refusal::number(refusal))
 }
 
-fn print_reading<W: Write>(to: &mut W, reading: Reading) -> io::Result<()> {
+fn print_reading<W: Write>(to: &mut W, reading: Result<Frame, Refusal>) -> io::Result<()> {
     match reading {
-        Reading::Frame(header, n) => {
-            print_text(to, b" frame to")?;
-            print_number(to, header.destination as u64)?;
-            print_text(to, b", payload length")?;
-            print_number(to, n as u64)
+        Ok(Frame { header, length }) => {
+            let destination = header.destination;
+            write!(to, " frame to {destination}, payload length {length}")
         }
-        Reading::Refused(refusal) => print_refusal(to, refusal),
+        Err(refusal) => print_refusal(to, refusal),
     }
 }
 
-fn print_writing<W: Write>(to: &mut W, writing: Writing) -> io::Result<()> {
+fn print_writing<W: Write>(to: &mut W, writing: Result<usize, Refusal>) -> io::Result<()> {
     match writing {
-        Writing::Written(n) => {
-            print_text(to, b" written")?;
-            print_number(to, n as u64)
-        }
-        Writing::Refused(refusal) => print_refusal(to, refusal),
+        Ok(count) => write!(to, " written {count}"),
+        Err(refusal) => print_refusal(to, refusal),
     }
 }
 
@@ -66,55 +45,47 @@ fn print_finding<W: Write>(to: &mut W, finding: Finding) -> io::Result<()> {
             start,
             length,
             tried,
-        } => {
-            print_text(to, b" found")?;
-            print_number(to, start as u64)?;
-            print_number(to, length as u64)?;
-            print_number(to, tried as u64)
-        }
-        Finding::Nothing(tried) => {
-            print_text(to, b" nothing")?;
-            print_number(to, tried as u64)
-        }
-        Finding::Spent(tried) => {
-            print_text(to, b" spent")?;
-            print_number(to, tried as u64)
-        }
+        } => write!(to, " found {start} {length} {tried}"),
+        Finding::Nothing(tried) => write!(to, " nothing {tried}"),
+        Finding::Spent(tried) => write!(to, " spent {tried}"),
     }
 }
 
-fn check_case<W: Write>(to: &mut W, label: &[u8], body: &[u8]) -> io::Result<()> {
-    print_text(to, label)?;
-    let check = fletcher::check_bytes(body);
-    print_bytes(to, &check)?;
-    print_text(to, b"\n")
+fn check_case<W: Write>(to: &mut W, label: &str, body: &[u8]) -> io::Result<()> {
+    write!(to, "{label}")?;
+    print_bytes(to, &fletcher::check_bytes(body))?;
+    writeln!(to)
 }
 
 // Prints what is read in a subnet, and the payload.
-fn read_in<W: Write>(to: &mut W, label: &[u8], ours: u8, bytes: &[u8]) -> io::Result<()> {
-    print_text(to, label)?;
+fn read_in<W: Write>(to: &mut W, label: &str, ours: u8, bytes: &[u8]) -> io::Result<()> {
+    write!(to, "{label}")?;
     print_reading(to, frame::read(ours, bytes))?;
-    print_text(to, b", payload:")?;
+    write!(to, ", payload:")?;
     print_bytes(to, frame::payload(ours, bytes))?;
-    print_text(to, b"\n")
+    writeln!(to)
 }
 
-fn read_case<W: Write>(to: &mut W, label: &[u8], bytes: &[u8]) -> io::Result<()> {
+fn read_case<W: Write>(to: &mut W, label: &str, bytes: &[u8]) -> io::Result<()> {
     read_in(to, label, SUBNET, bytes)
 }
 
 // Prints what writing did, and all of the lent bytes as they are afterwards.
-fn print_written<W: Write>(to: &mut W, writing: Writing, out: &[u8]) -> io::Result<()> {
+fn print_written<W: Write>(
+    to: &mut W,
+    writing: Result<usize, Refusal>,
+    out: &[u8],
+) -> io::Result<()> {
     print_writing(to, writing)?;
-    print_text(to, b", out:")?;
+    write!(to, ", out:")?;
     print_bytes(to, out)?;
-    print_text(to, b"\n")
+    writeln!(to)
 }
 
 // Writes into the lent bytes, and the same from a ready header into those lent beside them.
 fn write_case<W: Write>(
     to: &mut W,
-    label: &[u8],
+    label: &str,
     payload: &[u8],
     out: &mut [u8],
     beside: &mut [u8],
@@ -123,49 +94,43 @@ fn write_case<W: Write>(
         destination: 2,
         source: 255,
         subnet: 3,
-        method: 0,
-        parameter1: 0,
-        parameter2: 0,
         kind: 165,
-        message: 0,
-        packet: 0,
+        ..Header::default()
     };
-    print_text(to, label)?;
-    print_written(to, frame::write(header, payload, out), out)?;
-    print_text(to, b"   ready:")?;
-    print_written(
-        to,
-        frame::write_ready(frame::prepare(header), payload, beside),
-        beside,
-    )
+    write!(to, "{label}")?;
+    let writing = frame::write(header, payload, out);
+    print_written(to, writing, out)?;
+    write!(to, "   ready:")?;
+    let writing = frame::write_ready(frame::prepare(header), payload, beside);
+    print_written(to, writing, beside)
 }
 
 // Prints the finding: found with start, length and starts tried; nothing or spent with starts tried.
-fn find_case<W: Write>(to: &mut W, label: &[u8], bytes: &[u8], budget: usize) -> io::Result<()> {
-    print_text(to, label)?;
+fn find_case<W: Write>(to: &mut W, label: &str, bytes: &[u8], budget: usize) -> io::Result<()> {
+    write!(to, "{label}")?;
     print_finding(to, finder::find(SUBNET, bytes, budget))?;
-    print_text(to, b"\n")
+    writeln!(to)
 }
 
 fn check_cases<W: Write>(to: &mut W) -> io::Result<()> {
     check_case(
         to,
-        b"check bytes of 02 ff 03 00 00 00 a5 00 00 00:",
+        "check bytes of 02 ff 03 00 00 00 a5 00 00 00:",
         b"\x02\xff\x03\x00\x00\x00\xa5\x00\x00\x00",
     )?;
     check_case(
         to,
-        b"check bytes of ten zeros:",
+        "check bytes of ten zeros:",
         b"\x00\x00\x00\x00\x00\x00\x00\x00\x00\x00",
     )?;
     check_case(
         to,
-        b"check bytes of 00 00 00 00 00 11 00 00 00 00:",
+        "check bytes of 00 00 00 00 00 11 00 00 00 00:",
         b"\x00\x00\x00\x00\x00\x11\x00\x00\x00\x00",
     )?;
     check_case(
         to,
-        b"check bytes of ff 00 00 00 00 11 00 00 00 00:",
+        "check bytes of ff 00 00 00 00 11 00 00 00 00:",
         b"\xff\x00\x00\x00\x00\x11\x00\x00\x00\x00",
     )
 }
@@ -173,22 +138,22 @@ fn check_cases<W: Write>(to: &mut W) -> io::Result<()> {
 fn good_cases<W: Write>(to: &mut W) -> io::Result<()> {
     read_case(
         to,
-        b"the first case, read:",
+        "the first case, read:",
         b"\x02\xff\x03\x00\x00\x00\xa5\x00\x00\x00\x3d\x6d",
     )?;
     read_case(
         to,
-        b"44 ff, read:",
+        "44 ff, read:",
         b"\x00\x00\x00\x00\x00\x11\x00\x00\x00\x00\x44\xff",
     )?;
     read_case(
         to,
-        b"44 00, read:",
+        "44 00, read:",
         b"\x00\x00\x00\x00\x00\x11\x00\x00\x00\x00\x44\x00",
     )?;
     read_case(
         to,
-        b"2 bytes of payload, read:",
+        "2 bytes of payload, read:",
         b"\x02\xff\x03\x00\x00\x00\xa5\x00\x00\x02\x06\x07\x6a\x31",
     )
 }
@@ -196,20 +161,20 @@ fn good_cases<W: Write>(to: &mut W) -> io::Result<()> {
 fn refused_cases<W: Write>(to: &mut W) -> io::Result<()> {
     read_case(
         to,
-        b"11 bytes:",
+        "11 bytes:",
         b"\x02\xff\x03\x00\x00\x00\xa5\x00\x00\x00\x3d",
     )?;
     let mut long = [0u8; 253];
     long[9] = 241;
-    read_case(to, b"n = 241 in 253 bytes:", &long)?;
+    read_case(to, "n = 241 in 253 bytes:", &long)?;
     read_case(
         to,
-        b"n = 1 in 12 bytes:",
+        "n = 1 in 12 bytes:",
         b"\x02\xff\x03\x00\x00\x00\xa5\x00\x00\x01\x3d\x6d",
     )?;
     read_case(
         to,
-        b"the first case with last byte 6e:",
+        "the first case with last byte 6e:",
         b"\x02\xff\x03\x00\x00\x00\xa5\x00\x00\x00\x3d\x6e",
     )
 }
@@ -218,31 +183,31 @@ fn refused_cases<W: Write>(to: &mut W) -> io::Result<()> {
 fn subnet_cases<W: Write>(to: &mut W) -> io::Result<()> {
     read_in(
         to,
-        b"the first case, read in subnet 4:",
+        "the first case, read in subnet 4:",
         4,
         b"\x02\xff\x03\x00\x00\x00\xa5\x00\x00\x00\x3d\x6d",
     )?;
     read_in(
         to,
-        b"the first case, read in subnet 0:",
+        "the first case, read in subnet 0:",
         0,
         b"\x02\xff\x03\x00\x00\x00\xa5\x00\x00\x00\x3d\x6d",
     )?;
     read_in(
         to,
-        b"the first case with last byte 6e, read in subnet 4:",
+        "the first case with last byte 6e, read in subnet 4:",
         4,
         b"\x02\xff\x03\x00\x00\x00\xa5\x00\x00\x00\x3d\x6e",
     )?;
     read_in(
         to,
-        b"2 bytes of payload, read in subnet 4:",
+        "2 bytes of payload, read in subnet 4:",
         4,
         b"\x02\xff\x03\x00\x00\x00\xa5\x00\x00\x02\x06\x07\x6a\x31",
     )?;
     read_in(
         to,
-        b"44 ff, whose subnet is 0, read in subnet 4:",
+        "44 ff, whose subnet is 0, read in subnet 4:",
         4,
         b"\x00\x00\x00\x00\x00\x11\x00\x00\x00\x00\x44\xff",
     )
@@ -254,7 +219,7 @@ fn write_cases<W: Write>(to: &mut W) -> io::Result<()> {
     let mut beside = [170u8; 16];
     write_case(
         to,
-        b"241 bytes of payload in room 16:",
+        "241 bytes of payload in room 16:",
         &[7; 241],
         &mut out,
         &mut beside,
@@ -263,14 +228,14 @@ fn write_cases<W: Write>(to: &mut W) -> io::Result<()> {
     let mut short_beside = [170u8; 13];
     write_case(
         to,
-        b"2 bytes of payload in room 13:",
+        "2 bytes of payload in room 13:",
         b"\x06\x07",
         &mut short,
         &mut short_beside,
     )?;
     write_case(
         to,
-        b"2 bytes of payload in room 16:",
+        "2 bytes of payload in room 16:",
         b"\x06\x07",
         &mut out,
         &mut beside,
@@ -278,17 +243,17 @@ fn write_cases<W: Write>(to: &mut W) -> io::Result<()> {
 }
 
 fn tries_none_cases<W: Write>(to: &mut W) -> io::Result<()> {
-    find_case(to, b"empty, budget 0:", b"", 0)?;
-    find_case(to, b"empty, budget 2^64 - 1:", b"", 18446744073709551615)?;
+    find_case(to, "empty, budget 0:", b"", 0)?;
+    find_case(to, "empty, budget 2^64 - 1:", b"", usize::MAX)?;
     find_case(
         to,
-        b"11 bytes, budget 0:",
+        "11 bytes, budget 0:",
         b"\x02\xff\x03\x00\x00\x00\xa5\x00\x00\x00\x3d",
         0,
     )?;
     find_case(
         to,
-        b"12 bytes, budget 0:",
+        "12 bytes, budget 0:",
         b"\x02\xff\x03\x00\x00\x00\xa5\x00\x00\x00\x3d\x6d",
         0,
     )
@@ -297,25 +262,25 @@ fn tries_none_cases<W: Write>(to: &mut W) -> io::Result<()> {
 fn find_cases<W: Write>(to: &mut W) -> io::Result<()> {
     find_case(
         to,
-        b"a frame, budget 2^64 - 1:",
+        "a frame, budget 2^64 - 1:",
         b"\x02\xff\x03\x00\x00\x00\xa5\x00\x00\x00\x3d\x6d",
-        18446744073709551615,
+        usize::MAX,
     )?;
     find_case(
         to,
-        b"no frame in 12 bytes, budget 1:",
+        "no frame in 12 bytes, budget 1:",
         b"\x55\x02\xff\x03\x00\x00\x00\xa5\x00\x00\x00\x3d",
         1,
     )?;
     find_case(
         to,
-        b"a frame at start 1, budget 1:",
+        "a frame at start 1, budget 1:",
         b"\x55\x02\xff\x03\x00\x00\x00\xa5\x00\x00\x00\x3d\x6d",
         1,
     )?;
     find_case(
         to,
-        b"a frame at start 1, budget 2:",
+        "a frame at start 1, budget 2:",
         b"\x55\x02\xff\x03\x00\x00\x00\xa5\x00\x00\x00\x3d\x6d",
         2,
     )
@@ -325,19 +290,19 @@ fn find_cases<W: Write>(to: &mut W) -> io::Result<()> {
 fn other_cases<W: Write>(to: &mut W) -> io::Result<()> {
     find_case(
         to,
-        b"a frame of subnet 4, budget 2^64 - 1:",
+        "a frame of subnet 4, budget 2^64 - 1:",
         b"\x02\xff\x04\x00\x00\x00\xa5\x00\x00\x00\x34\x75",
-        18446744073709551615,
+        usize::MAX,
     )?;
     find_case(
         to,
-        b"a frame of ours in the payload of one of subnet 4, budget 10:",
+        "a frame of ours in the payload of one of subnet 4, budget 10:",
         b"\x02\xff\x04\x00\x00\x00\xa5\x00\x00\x0c\x02\xff\x03\x00\x00\x00\xa5\x00\x00\x00\x3d\x6d\x2a\x1e",
         10,
     )?;
     find_case(
         to,
-        b"the same, budget 11:",
+        "the same, budget 11:",
         b"\x02\xff\x04\x00\x00\x00\xa5\x00\x00\x0c\x02\xff\x03\x00\x00\x00\xa5\x00\x00\x00\x3d\x6d\x2a\x1e",
         11,
     )

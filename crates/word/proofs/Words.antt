@@ -1,16 +1,16 @@
 -- The laws of numbers as bytes, over the width.
 use Prim.Native.Nat.{ℕ, zero, suc, ◌+◌, ◌-◌, ◌*◌, ◌/◌, ◌%◌, ◌^◌, ◌≤◌, ◌<◌, min}
-use native.Mathlib.Nat.{mod-lt, mod-add-div, mod-eq_of_lt, pow-succ', one-le-pow, mul_assoc, pow-le-pow_right, mod-one, add-mul-div_left, add-mul-mod_self_left, div-eq_of_lt, lt_of_lt_of_le}
+use native.Mathlib.Nat.{mod-lt, mod-add-div, mod-eq_of_lt, pow-succ', div-one, div-div-eq-div-mul, one-le-pow, mul_assoc, mod-one, add-mul-div_left, add-mul-mod_self_left, div-eq_of_lt}
 use native.Mathlib.Omega.{arith}
-use native.Mathlib.Numerals.{add-one}
 use mathlib.Core.Path.{◌≡◌, refl, sym, ap, ◌∙◌}
-use mathlib.Core.List.{List, [], ◌∷◌, ◌++◌, append-nil}
-use mathlib.Core.Bool.{Bool, true, false}
-use lib.Dec.{leb}
-use borrow.Author.Tests.{leb-true, leb-false}
-use borrow.Author.Rules.{rules}
-use lib.ListN.{length, get_or, set, take, drop, length-drop, drop_of_length-le}
-use lib.Seq.{take-suc-set, take_at, length-take-le, drop-append_seam, append_snoc, drop-cons, take_all, take-length, drop-length, get_or-drop}
+use mathlib.Core.List.{List, [], ◌∷◌, ◌++◌}
+use Rattle.std.specs.Int.{w64, to_le_bytes, from_le_bytes, bytes_low_first, byte_at, byte_worth, sum_through}
+use Rattle.std.proofs.lemmas.List.{length-take, drop_min, drop-replicate}
+use lib.ListN.{length, get_or, replicate, take, drop, length-drop}
+use lib.Seq.{take_at, length-take-le, drop-append_seam, take_all, get_or-drop}
+use Rattle.ground.specs.Bytes.{padded}
+use Rattle.ground.proofs.Laid.{laid_length}
+use Rattle.ground.proofs.Runs.{rest_is}
 use Rattle.word.specs.Words.{bytes_of, value_of, word_at}
 
 -- each of the list is a byte
@@ -20,13 +20,13 @@ Bytes bs = (i : ℕ) → get_or bs i 0 < 256
 pub length_bytes : (n w : ℕ) → length (bytes_of n w) ≡ n
 unfolding bytes_of
 length_bytes zero w = refl
-length_bytes (suc n) w = ap suc (length_bytes n (w / 256))
+length_bytes (suc n) w = ap suc (length_bytes n _)
 
 pub bytes_bytes : (n w : ℕ) → Bytes (bytes_of n w)
 unfolding bytes_of
 bytes_bytes zero w i = omega arith
 bytes_bytes (suc n) w zero = mod-lt w (omega arith)
-bytes_bytes (suc n) w (suc i) = bytes_bytes n (w / 256) i
+bytes_bytes (suc n) w (suc i) = bytes_bytes n _ i
 
 bytes_drop : (n : ℕ) (bs : List ℕ) → Bytes bs → Bytes (drop n bs)
 bytes_drop n bs h i = rw get_or-drop (h (n + i))
@@ -75,60 +75,56 @@ value_of_bytes (suc n) w = rw (value_of_bytes n (w / 256), pow-succ' 256 n) (low
 pub value_of_whole : (n w : ℕ) → w < 256 ^ n → value_of (bytes_of n w) ≡ w
 value_of_whole n w h = value_of_bytes n w ∙ mod-eq_of_lt h
 
--- the loop that writes bytes: those written, and the bytes of what is left, are the bytes of the whole
-pub written_step : (whole bytes : List ℕ) (rest i n : ℕ) → take i bytes ++ bytes_of (n - i) rest ≡ whole → i < n → length bytes ≡ n → take (i + 1) (set bytes i (rest % 256)) ++ bytes_of (n - (i + 1)) (rest / 256) ≡ whole
+-- the bytes of a number from byte i upward, as `to_le_bytes` gives them
+low_first : (n i w : ℕ) → bytes_low_first i n w ≡ bytes_of n (w / 256 ^ i)
 unfolding bytes_of
-written_step whole bytes rest i n e h l = rw (add-one, take-suc-set bytes i (rest % 256) (omega arith), append_snoc) (rw (let q : n - i ≡ suc (n - suc i) = omega arith in q) at e)
+low_first zero i w = refl
+low_first (suc n) i w = cc (this i, low_first n (suc i) w, next)
+  where
+    this : (i : ℕ) → byte_at i w ≡ w / 256 ^ i % 256
+    this zero = rw (div-one w) refl
+    this (suc i) = refl
 
-pub written_end : (whole bytes : List ℕ) (rest i n : ℕ) → take i bytes ++ bytes_of (n - i) rest ≡ whole → i ≤ n → n ≤ i → length bytes ≡ n → bytes ≡ whole
-unfolding bytes_of
-written_end whole bytes rest i n e h k l = rw (append-nil, take_all i bytes (omega arith)) at (rw (let q : n - i ≡ 0 = omega arith in q) at e)
+    next : w / 256 ^ suc i ≡ w / 256 ^ i / 256
+    next = rw (div-div-eq-div-mul w (256 ^ i) 256) (ap (λ (m : ℕ). w / m) (omega (arith, pow-succ' 256 i)))
 
--- what closes each need of that loop
-pub ruleset writing = (rules, written_step, written_end)
+pub to_bytes : (w : ℕ) → to_le_bytes w64 w ≡ bytes_of 8 w
+to_bytes w = low_first 8 0 w ∙ ap (bytes_of 8) (div-one w)
 
--- the loop that reads bytes from the last on: what was read is worth what stands from i on
-pub read_none : (part : List ℕ) → 0 ≡ value_of (drop (length part) part)
+-- one byte more is worth its place more
+value_more : (n : ℕ) (bs : List ℕ) → value_of (take (suc n) bs) ≡ value_of (take n bs) + get_or bs n 0 * 256 ^ n
 unfolding value_of
-read_none part = rw drop-length refl
+value_more zero [] = refl
+value_more zero (b ∷ bs) = omega arith
+value_more (suc n) [] = omega arith
+value_more (suc n) (b ∷ bs) = rw (pow-succ' 256 n) (omega (arith, value_more n bs))
 
-pub read_step : (part : List ℕ) (word i : ℕ) → word ≡ value_of (drop i part) → 0 < i → i ≤ length part → 256 * word + get_or part (i - 1) 0 ≡ value_of (drop (i - 1) part)
+-- so what `from_le_bytes` sums up is what the bytes are worth
+summed : (n : ℕ) (bs : List ℕ) → sum_through (λ i. byte_worth i (get_or bs i 0)) n ≡ value_of (take (suc n) bs)
 unfolding value_of
-read_step part word i e h l = rw (next, ← e) (omega arith)
+summed zero bs = omega (arith, value_more 0 bs)
+summed (suc n) bs = ap (λ (v : ℕ). v + get_or bs (suc n) 0 * 256 ^ suc n) (summed n bs) ∙ sym (value_more (suc n) bs)
+
+-- zeros behind bytes are worth nothing
+value_zeros : (bs : List ℕ) (n : ℕ) → value_of (bs ++ replicate n 0) ≡ value_of bs
+unfolding value_of
+value_zeros [] zero = refl
+value_zeros [] (suc n) = ap (λ (v : ℕ). 0 + 256 * v) (value_zeros [] n)
+value_zeros (b ∷ bs) n = ap (λ (v : ℕ). b + 256 * v) (value_zeros bs n)
+
+-- eight bytes, those from a place on and zeros in the places that they leave, are worth what there is
+pub from_padded : (bytes eight : List ℕ) (at start : ℕ) → start ≡ min at (length bytes) → eight ≡ padded 8 (take (length bytes - start) (drop start bytes)) → from_le_bytes w64 eight ≡ word_at bytes at
+unfolding word_at
+from_padded bytes eight at start h e =
+    summed 7 eight ∙ ap value_of (ap (take 8) (e ∙ ap (padded 8) (rest_is bytes start)) ∙ whole) ∙ value_zeros part (8 - length part) ∙ ap (λ (l : List ℕ). value_of (take 8 l)) (rw h (drop_min at bytes))
   where
-    next : drop (i - 1) part ≡ get_or part (i - 1) 0 ∷ drop i part
-    next = drop-cons part (i - 1) 0 (omega arith) ∙ ap (λ (n : ℕ). get_or part (i - 1) 0 ∷ drop n part) (let q : suc (i - 1) ≡ i = omega arith in q)
+    part : List ℕ
+    part = take 8 (drop start bytes)
 
-pub read_end : (part : List ℕ) (word i : ℕ) → word ≡ value_of (drop i part) → i ≤ 0 → word ≡ value_of part
-read_end part word i e h = e ∙ ap (λ (n : ℕ). value_of (drop n part)) (let q : i ≡ 0 = omega arith in q)
-
--- what closes each need of that loop but its two bounds
-pub ruleset reading = (rules, read_none, read_step, read_end)
-
--- those two: there is room for one byte more
-pub read_room : (part : List ℕ) (word i : ℕ) → Bytes part → length part ≤ 8 → word ≡ value_of (drop i part) → 0 < i → i ≤ length part → word < 256 ^ 7
-read_room part word i b m e h l = lt_of_lt_of_le (rw e (value_below (drop i part) (bytes_drop i part b))) (pow-le-pow_right (let z : 0 < 256 = omega arith in z) few)
-  where
-    few : length (drop i part) ≤ 7
-    few = rw length-drop (omega arith)
-
--- what is the same from m on may be asked for at m at most
-capped {ℓ} : {A : Type ℓ} (f : ℕ → A) (n m : ℕ) → (m ≤ n → f m ≡ f n) → f (min n m) ≡ f n
-capped f n m same = go (leb n m) refl
-  where
-    go : (b : Bool) → leb n m ≡ b → f (min n m) ≡ f n
-    go true h = ap f (let e : min n m ≡ n = omega (arith, leb-true n m h) in e)
-    go false h = ap f (let e : min n m ≡ m = omega (arith, leb-false n m h) in e) ∙ same (omega (arith, leb-false n m h))
-
-take_least : (n : ℕ) (l : List ℕ) → take (min n (length l)) l ≡ take n l
-take_least n l = capped (λ (m : ℕ). take m l) n (length l) (λ h. take-length l ∙ sym (take_all n l h))
-
-drop_least : (n : ℕ) (l : List ℕ) → drop (min n (length l)) l ≡ drop n l
-drop_least n l = capped (λ (m : ℕ). drop m l) n (length l) (λ h. drop-length l ∙ sym (drop_of_length-le l h))
-
--- what is worth a part cut off at the list's end is worth the part asked for
-pub read_part : (bytes : List ℕ) (at n start size r : ℕ) → start ≡ min at (length bytes) → size ≡ min n (length bytes - start) → r ≡ value_of (take (start + size - start) (drop start bytes)) → r ≡ value_of (take n (drop at bytes))
-read_part bytes at n start size r hs hn e = e ∙ ap value_of (rw (let q : start + size - start ≡ size = omega arith in q, hn, hs, ← length-drop (min at (length bytes)) bytes, take_least, drop_least))
+    whole : take 8 (padded 8 (drop start bytes)) ≡ part ++ replicate (8 - length part) 0
+    whole =
+        take_all 8 (padded 8 (drop start bytes)) (rw (laid_length part (replicate 8 0) (rw length-take (omega arith))) (omega arith))
+        ∙ ap (λ (l : List ℕ). part ++ l) (drop-replicate (length part) 8 0)
 
 -- a word written among other bytes is read back
 pub read_back : (before after : List ℕ) (w : ℕ) → w < 256 ^ 8 → word_at (before ++ (bytes_of 8 w ++ after)) (length before) ≡ w

@@ -1,21 +1,14 @@
--- `board::lowest_mac` meets its contract: what is looked for in the whole is what is looked for in the rest.
-use mathlib.Core.Path.{refl}
-use borrow.Author.Tests.{eq-eqb, ne_eqb}
-use Rattle.ground.proofs.Firsts.{firsts, first_hit, first_miss}
-use Rattle.board.specs.Columns.{lowest_in}
-use Rattle.board.proofs.Columns.{valued}
-use borrow.Author.Rules.{rules}
+-- `board::lowest_mac` meets its contract: the element that the library finds is that of the first position, 0 for none.
+use Rattle.std.proofs.Common.{rules, ◌≡◌, ℕ, ◌+◌, take, nat_eq, Option, unwrap_or, position, ap, ◌∙◌}
+use Rattle.std.specs.Option.{option_map}
+use Rattle.std.proofs.lemmas.Iterator.{YieldsList-from_slice}
+use Rattle.std.proofs.lemmas.Iterator.Search.{position_from_yields_List}
+use Rattle.board.proofs.Column.{first_mac}
 use Rattle.board.proofs.lowest_mac.Goals as goal
 
-pub loop-left-init : goal.loop-left-init
-unfolding lowest_in
-loop-left-init c = (search rules, search rules, rw c.least-left.ensures refl)
-
-pub returns-then-macs-i : goal.returns-then-macs-i
-returns-then-macs-i c = first_hit _ _ _ _ _ _ c.loop-left.invariant.2 c.loop-left-test.true (valued _ _ _ refl c.loop-left.invariant.0) (eq-eqb _ _ c.if-macs-i.true)
-
-pub loop-left-preserved : goal.loop-left-preserved
-loop-left-preserved c = (search rules, search rules, first_miss _ _ _ _ _ _ c.loop-left.invariant.2 c.loop-left-test.true (valued _ _ _ refl c.loop-left.invariant.0) (ne_eqb _ _ c.if-macs-i.false))
-
 pub returns : goal.returns
-returns c = search firsts
+returns c =
+    let a = c.args in
+    let found : c.position.result ≡ position (λ m. nat_eq m a.mac) (take c.min.result a.macs.now) = position_from_yields_List _ _ _ c.position.result c.position.ensures.ran (YieldsList-from_slice (take c.min.result a.macs.now) cc) (λ x b q k. search rules) in
+    let moved : c.map_or.result ≡ unwrap_or (option_map (λ i. 1 + i) c.position.result) 0 = search rules in
+    moved ∙ ap (λ (o : Option ℕ). unwrap_or (option_map (λ i. 1 + i) o) 0) found ∙ first_mac a.macs.now a.mac a.limit c.min.result c.told-macs c.min.ensures

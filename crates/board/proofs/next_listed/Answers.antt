@@ -1,9 +1,7 @@
 -- `board::next_listed` meets its contract: the positions after, then those from 1 on.
-use Rattle.board.proofs.NextListed.{next_after, next_round}
+use Rattle.std.proofs.Common.{rules, ◌∙◌}
+use Rattle.board.proofs.NextListed.{next_looked}
 use Rattle.board.proofs.next_listed.Goals as goal
 
-pub returns-then-p-gt0 : goal.returns-then-p-gt0
-returns-then-p-gt0 c = next_after _ _ _ _ _ _ c.least-top.ensures c.least-last.ensures c.first_from-p.ensures c.if-p-gt0.true
-
-pub returns-else-p-gt0 : goal.returns-else-p-gt0
-returns-else-p-gt0 c = next_round _ _ _ _ _ _ _ c.least-top.ensures c.least-last.ensures c.first_from-p.ensures c.if-p-gt0.false c.first_from.ensures
+pub returns : goal.returns
+returns c = c.unwrap_or.ensures ∙ next_looked _ _ _ c.min-top.ensures c.min-last.ensures c.first_after.result c.or_else.result c.first_after.ensures (search rules)

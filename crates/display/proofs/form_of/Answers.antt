@@ -1,38 +1,60 @@
--- `display::form_of` meets its contract.
-use mathlib.Core.Path.{◌≡◌, sym, ap, ◌∙◌}
-use mathlib.Core.Bool.{true, false}
-use mathlib.Core.List.{[]}
+-- `display::form_of` meets its contract: what it cut the payload into tells whether it is well formed.
+use Rattle.std.proofs.Common.{◌≡◌, arith, sym, ap, ◌∙◌}
+use Rattle.std.specs.Prelude.{[]}
 use Rattle.refusal.specs.Refusal.{refuses, gives}
-use Rattle.display.specs.Text.{all_text, behind}
-use Rattle.ground.proofs.Runs.{rest_is}
-use Rattle.display.proofs.Laws.{lengths_pass, well_stands, not_text}
-use Prim.Native.Nat.{◌+◌}
-use Rattle.ground.proofs.Choices.{tests}
+use Rattle.refusal.specs.declared.Refusal.TheVariants.{BadTextLength}
 use Rattle.display.specs.Form.{forming}
+use Rattle.display.proofs.Laws.{exit, not_long, not_text, well_stands, lengths, text_is, lengths_off, lengths_on}
 use Rattle.display.proofs.form_of.Goals as goal
+use Rattle.display.proofs.form_of.Goals.{then-text-n-via-then-text-n, then-text-n-via-else-text-n+then-most-text}
 
-pub returns-then-payload-start : goal.returns-then-payload-start
+pub returns-in_err-own-clause-told : goal.returns-in_err-own-clause-told
 unfolding forming
-returns-then-payload-start c = search tests
+returns-in_err-own-clause-told g c =
+    let short = rw c.in_err-own.ensures.ok_part at c.split_first_chunk.ensures.cases in
+    let value = rw c.in_err-own.ensures.ok_part at c.in_err-own.ensures.value in
+    let is : c.in_err-own.field-0.0 ≡ BadTextLength = cc in
+    exit _ _ _ c.from_residual.ensures.1 ∙ ap refuses is ∙ sym (not_long g.row.OWN c.args.most c.args.payload.now refuses (gives []) (λ ok. omega (arith, (lengths _ _ _ ok).0, short)))
 
-pub returns-then-payload-start-2 : goal.returns-then-payload-start-2
+pub returns-in_err-n-clause-told : goal.returns-in_err-n-clause-told
 unfolding forming
-returns-then-payload-start-2 c = search tests
+returns-in_err-n-clause-told g c =
+    let cut = rw c.in_ok-own.ensures.ok_part at c.split_first_chunk.ensures.cases in
+    let none = rw c.in_err-n.ensures.ok_part at c.split_first.ensures.cases in
+    let value = rw c.in_err-n.ensures.ok_part at c.in_err-n.ensures.value in
+    let is : c.in_err-n.field-0.0 ≡ BadTextLength = cc in
+    exit _ _ _ c.from_residual-in_err-n.ensures.1 ∙ ap refuses is ∙ sym (not_long g.row.OWN c.args.most c.args.payload.now refuses (gives []) (λ ok. omega (arith, (lengths _ _ _ ok).0, cut.2, none)))
 
-pub returns-then-most-n : goal.returns-then-most-n
+pub returns-then-text-n-clause-told : goal.returns-then-text-n-clause-told
 unfolding forming
-returns-then-most-n c = search tests
+returns-then-text-n-clause-told g c =
+    let cut = rw c.in_ok-own.ensures.ok_part at c.split_first_chunk.ensures.cases in
+    let parts = rw c.in_ok-n.ensures.ok_part at c.split_first.ensures.cases in
+    sym (not_long _ _ _ refuses (gives []) (lengths_off _ c.args.most _ _ _ _ (cut.1, cut.2) parts.0 (λ e l.
+    elim c.then-text-n.branch [
+      | then-text-n-via-then-text-n w ↦ w.if-text-n.true e
+      | then-text-n-via-else-text-n+then-most-text w ↦ omega (arith, l, w.if-most-text.true)
+    ])))
 
-pub returns-then-not-all_text : goal.returns-then-not-all_text
+pub returns-then-not-all_text-clause-told : goal.returns-then-not-all_text-clause-told
 unfolding forming
-returns-then-not-all_text c =
-    let args = c.args in
-    let none : all_text (behind args.own args.payload.now) ≡ false = ap all_text (sym (rest_is args.payload.now (args.own + 1))) ∙ sym c.all_text.ensures ∙ c.if-not-all_text.true in
-    sym (not_text args.own args.most args.payload.now refuses (gives []) (lengths_pass args.own args.most args.payload.now c.if-payload-start-2.false c.if-most-n.false) none)
+returns-then-not-all_text-clause-told g c =
+    let cut = rw c.in_ok-own.ensures.ok_part at c.split_first_chunk.ensures.cases in
+    let parts = rw c.in_ok-n.ensures.ok_part at c.split_first.ensures.cases in
+    let none = rw (text_is g.row.OWN c.args.most _ _ _ _ (cut.1, cut.2) parts.0) at c.all_text.ensures in
+    sym (not_text _ _ _ refuses (gives []) (lengths_on _ _ _ _ _ _ (cut.1, cut.2) parts.0 c.if-text-n.false c.if-most-text.false) (sym none ∙ c.if-not-all_text.true))
 
-pub returns : goal.returns
+pub returns-clause-told : goal.returns-clause-told
 unfolding forming
-returns c =
-    let args = c.args in
-    let all : all_text (behind args.own args.payload.now) ≡ true = ap all_text (sym (rest_is args.payload.now (args.own + 1))) ∙ sym c.all_text.ensures ∙ c.if-not-all_text.false in
-    sym (well_stands _ _ _ refuses (gives []) (record { long = c.if-payload-start-2.false; small = c.if-most-n.false; shown = all }))
+returns-clause-told g c =
+    let cut = rw c.in_ok-own.ensures.ok_part at c.split_first_chunk.ensures.cases in
+    let parts = rw c.in_ok-n.ensures.ok_part at c.split_first.ensures.cases in
+    let all = rw (text_is g.row.OWN c.args.most _ _ _ _ (cut.1, cut.2) parts.0) at c.all_text.ensures in
+    let l = lengths _ _ _ (lengths_on _ _ _ _ _ _ (cut.1, cut.2) parts.0 c.if-text-n.false c.if-most-text.false) in
+    sym (well_stands g.row.OWN c.args.most c.args.payload.now refuses (gives []) (record { long = l.0; small = l.1; shown = sym all ∙ c.if-not-all_text.false }))
+
+pub returns-clause-parts : goal.returns-clause-parts
+returns-clause-parts g c =
+    let cut = rw c.in_ok-own.ensures.ok_part at c.split_first_chunk.ensures.cases in
+    let parts = rw c.in_ok-n.ensures.ok_part at c.split_first.ensures.cases in
+    (cut.0, text_is _ c.args.most _ _ _ _ (cut.1, cut.2) parts.0)

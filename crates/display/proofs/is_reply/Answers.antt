@@ -1,15 +1,10 @@
--- `display::is_reply` meets its contract.
-use borrow.Author.Tests.{eq-eqb}
-use mathlib.Core.Path.{refl}
-use Rattle.ground.specs.Below.{all}
-use Rattle.ground.proofs.Choices.{tests, and_yes}
-use Rattle.display.specs.Messages.{is_reply}
+-- `display::is_reply` meets its contract: both tests tell whether the payload is the reply.
+use Rattle.std.specs.Bool.{one_answer}
+use Rattle.std.proofs.lemmas.Bool.Decides.{Decides-eqb}
+use Rattle.std.proofs.lemmas.Slice.Eq.{slice_eq-Decides}
+use Rattle.display.proofs.Messages.{reply_exactly}
 use Rattle.display.proofs.is_reply.Goals as goal
 
-pub returns-then-payload-ne2 : goal.returns-then-payload-ne2
-unfolding is_reply all
-returns-then-payload-ne2 c = search tests
-
 pub returns : goal.returns
-unfolding is_reply all
-returns c = and_yes _ _ _ (eq-eqb _ _ c.if-payload-ne2.false) refl
+returns c =
+    one_answer _ _ (slice_eq-Decides Decides-eqb _ _ _ (rw c.as_slice.ensures at c.eq.ensures)) (reply_exactly c.args.payload.now)

@@ -1,28 +1,16 @@
 -- `display::read_diagnostics` meets its contract.
-use native.Mathlib.Omega.{arith}
+use mathlib.Core.Path.{◌∙◌}
 use Rattle.ground.specs.Below.{up_from}
 use Rattle.refusal.specs.Refusal.{refuses}
 use Rattle.display.specs.Text.{read_text}
 use Rattle.display.specs.Messages.{diagnostics_most}
-use Rattle.display.proofs.Laws.{read_fixed, found_well, found_refused}
+use Rattle.display.proofs.Laws.{exit, read_parts, found_well, found_refused}
 use Rattle.display.proofs.read_diagnostics.Goals as goal
 
-pub bounds-payload-0 : goal.bounds-payload-0
-bounds-payload-0 c = let w = found_well _ _ _ c.in-Well.is c.form_of.ensures in omega (arith, w.long)
-
-pub bounds-payload-1 : goal.bounds-payload-1
-bounds-payload-1 c = let w = found_well _ _ _ c.in-Well.is c.form_of.ensures in omega (arith, w.long)
-
-pub bounds-payload-2 : goal.bounds-payload-2
-bounds-payload-2 c = let w = found_well _ _ _ c.in-Well.is c.form_of.ensures in omega (arith, w.long)
-
-pub bounds-payload-3 : goal.bounds-payload-3
-bounds-payload-3 c = let w = found_well _ _ _ c.in-Well.is c.form_of.ensures in omega (arith, w.long)
-
-pub returns-in-Well : goal.returns-in-Well
-unfolding up_from
-returns-in-Well c = read_fixed 3 diagnostics_most _ (found_well _ _ _ c.in-Well.is c.form_of.ensures)
-
-pub returns-in-Refused : goal.returns-in-Refused
+pub returns-in_err-kind : goal.returns-in_err-kind
 unfolding read_text
-returns-in-Refused c = found_refused _ _ _ refuses _ c.in-Refused.is c.form_of.ensures
+returns-in_err-kind c = exit _ _ _ c.from_residual.ensures.1 ∙ found_refused _ _ _ _ refuses _ c.in_err-kind.ensures.told
+
+pub returns : goal.returns
+unfolding up_from
+returns c = read_parts 3 diagnostics_most _ (found_well _ _ _ c.in_ok-kind.ensures.told) c.in_ok-kind.field-0-0.now c.in_ok-kind.text.now c.in_ok-kind.ensures.parts

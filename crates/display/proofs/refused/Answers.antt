@@ -8,4 +8,6 @@ use Rattle.display.proofs.refused.Goals as goal
 
 pub returns : goal.returns
 unfolding display_numbers diagnostics_numbers choose
-returns c = rw (c.number.ensures, ne_eqb _ 0 (not_zero c.args.refusal)) (refl, refl)
+returns c =
+    let d = c.default.ensures in
+    rw (c.number.ensures, ne_eqb _ 0 (not_zero c.args.refusal), d.1.0, d.1.1.0, d.1.1.1.0, d.1.1.1.1.0, d.1.1.1.1.1) (refl, refl)

@@ -1,11 +1,7 @@
 -- `finder::sums_on` meets its contract. The loop's invariant: the sums are those before the place reached.
-use Prim.Native.Nat.{◌-◌, ◌≤◌}
-use mathlib.Core.Path.{◌≡◌}
+use Rattle.std.proofs.Common.{◌≡◌}
 use Rattle.finder.specs.Trail.{sums_to}
 use Rattle.finder.proofs.sums_on.Given as goal
 
 abbrev pub invariant-loop-i : goal.invariant-loop-i
-invariant-loop-i l = (l.i ≤ l.place) × (l.first ≡ (sums_to l.bytes l.i).first) × (l.second ≡ (sums_to l.bytes l.i).second)
-
-abbrev pub decreases-loop-i : goal.decreases-loop-i
-decreases-loop-i l = l.place - l.i
+invariant-loop-i l = (l.first ≡ (sums_to l.bytes l.i).first) × (l.second ≡ (sums_to l.bytes l.i).second)

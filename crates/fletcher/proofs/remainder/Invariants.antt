@@ -1,6 +1,5 @@
--- `fletcher::remainder` meets its contract. The loop's invariant: what is left has the remainder of the whole, since multiples of 255 were subtracted.
-use Prim.Native.Nat.{◌%◌}
-use mathlib.Core.Path.{◌≡◌}
+-- `remainder` meets its contract. The loop's invariant: what is left has the remainder of the whole, since multiples of 255 were subtracted.
+use Rattle.std.proofs.Common.{◌≡◌, ◌%◌}
 use Rattle.fletcher.proofs.remainder.Given as goal
 
 abbrev pub invariant-loop-rest : goal.invariant-loop-rest

@@ -22,9 +22,6 @@ pub returns-then-bytes-lt12 : goal.returns-then-bytes-lt12
 unfolding reading
 returns-then-bytes-lt12 c = search tests
 
-pub overflow_cast-n : goal.overflow_cast-n
-overflow_cast-n c = omega arith
-
 pub returns-then-n-gt240 : goal.returns-then-n-gt240
 unfolding reading
 returns-then-n-gt240 c = search tests

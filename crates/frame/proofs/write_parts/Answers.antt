@@ -9,20 +9,17 @@ use Rattle.ground.specs.Choose.{choose}
 use Rattle.frame.specs.Frame.{writing, written_bytes}
 use Rattle.frame.proofs.Parts.{parts_written}
 use Rattle.frame.proofs.write_parts.Goals as goal
+use Rattle.frame.proofs.write_parts.Goals.{then-m-gt240-via-then-m-gt240, then-m-gt240-via-else-m-gt240+then-m-rest}
 
 pub returns-then-m-gt240 : goal.returns-then-m-gt240
 unfolding writing written_bytes choose
 returns-then-m-gt240 c = let args = c.args in
     let payload = args.front.now ++ args.rest.now in
     let whole = length-append args.front.now args.rest.now in
-    rw (lt-ltb 240 (length payload) (omega (arith, whole, c.if-m-gt240.true))) (refl, refl)
-
-pub returns-then-m-rest : goal.returns-then-m-rest
-unfolding writing written_bytes choose
-returns-then-m-rest c = let args = c.args in
-    let payload = args.front.now ++ args.rest.now in
-    let whole = length-append args.front.now args.rest.now in
-    rw (lt-ltb 240 (length payload) (omega (arith, whole, c.if-m-rest.true))) (refl, refl)
+    elim c.then-m-gt240.branch [
+      | then-m-gt240-via-then-m-gt240 w ↦ rw (lt-ltb 240 (length payload) (omega (arith, whole, w.if-m-gt240.true))) (refl, refl)
+      | then-m-gt240-via-else-m-gt240+then-m-rest w ↦ rw (lt-ltb 240 (length payload) (omega (arith, whole, w.if-m-rest.true))) (refl, refl)
+    ]
 
 pub returns-then-out-m : goal.returns-then-out-m
 unfolding writing written_bytes choose

@@ -9,19 +9,19 @@ use Rattle.join.proofs.Seen.{known_seen, chosen_seen, many_seen}
 use Rattle.join.proofs.Verdict.{join_taken, join_refused, join_made}
 use Rattle.join.proofs.join.Goals as goal
 
-pub returns-in-Refused : goal.returns-in-Refused
-returns-in-Refused c = λ p co t s k.
+pub returns-in-Err : goal.returns-in-Err
+returns-in-Err c = λ p co t s k.
     let args = c.args in
-    let q = c.in-Refused.refusal in
+    let q = c.in-Err.refusal in
     let own = known_seen s k.2 args.mac c.lowest_mac-own.ensures in
-    let verdict = c.judge.ensures co t s (λ m. many_seen s _ args.kind args.version k.0 k.1 (own m) c.version_of-joining.ensures c.too_many_with-many.ensures) (λ m. chosen_seen s args.mac k.0 (own m) c.chosen-position.ensures) in
+    let verdict = c.in-Err.ensures co t s (λ m. many_seen s _ args.kind args.version k.0 k.1 (own m) c.version_of-joining.ensures c.too_many_with-many.ensures) (λ m. chosen_seen s args.mac k.0 (own m) c.chosen-position.ensures) in
     makes_refusal p co t q c.refusing.ensures ∙
-    sym (ap shows (join_refused co t args.kind args.mac args.session args.version s.fit q c.in-Refused.is verdict))
+    sym (ap shows (join_refused co t args.kind args.mac args.session args.version s.fit q (sym verdict)))
 
-pub returns-in-Fine : goal.returns-in-Fine
-returns-in-Fine c = λ p co t s k.
+pub returns : goal.returns
+returns c = λ p co t s k.
     let args = c.args in
     let own = known_seen s k.2 args.mac c.lowest_mac-own.ensures in
     let place : is_mac args.mac ≡ true → c.chosen-position.result ≡ chosen t co.setup.k args.mac = λ m. chosen_seen s args.mac k.0 (own m) c.chosen-position.ensures in
-    let rules = join_taken co t args.kind args.mac args.session args.version s.fit c.in-Fine.is (c.judge.ensures co t s (λ m. many_seen s _ args.kind args.version k.0 k.1 (own m) c.version_of-joining.ensures c.too_many_with-many.ensures) place) in
-    join_made co t args.kind args.mac args.session args.version rules p place c.resting.ensures
+    let verdict = c.in_default.ensures co t s (λ m. many_seen s _ args.kind args.version k.0 k.1 (own m) c.version_of-joining.ensures c.too_many_with-many.ensures) place in
+    join_made co t args.kind args.mac args.session args.version (join_taken co t args.kind args.mac args.session args.version s.fit (sym verdict)) p place c.resting.ensures

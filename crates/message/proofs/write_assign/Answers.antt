@@ -2,4 +2,4 @@
 use Rattle.message.proofs.write_assign.Goals as goal
 
 pub returns : goal.returns
-returns c = rw c.assignment_bytes-payload.ensures at c.write_broadcast.ensures
+returns c = rw c.assignment_bytes.ensures at c.write_broadcast.ensures

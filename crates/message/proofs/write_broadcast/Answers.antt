@@ -4,4 +4,4 @@ use Rattle.message.proofs.write_broadcast.Goals as goal
 
 pub returns : goal.returns
 unfolding broadcast_header
-returns c = c.write.ensures
+returns c = let e = c.default.ensures in rw (e.0, e.1.1.0, e.1.1.1.0, e.1.1.1.1.0, e.1.1.1.1.1.0) at c.write.ensures

@@ -4,10 +4,10 @@ use Rattle.ground.proofs.Choices.{chosen, unchosen}
 use Rattle.nodelist.specs.List.{list_over}
 use Rattle.message.proofs.write_list.Goals as goal
 
-pub returns-then-version-eq1 : goal.returns-then-version-eq1
+pub returns-then-to-eq1 : goal.returns-then-to-eq1
 unfolding list_over
-returns-then-version-eq1 c = rw (eq-eqb _ 1 c.if-version-eq1.true, chosen _ _) c.write_condensed.ensures
+returns-then-to-eq1 c = rw (eq-eqb _ 1 c.if-to-eq1.true, chosen _ _) c.write_condensed.ensures
 
 pub returns : goal.returns
 unfolding list_over
-returns c = rw (ne_eqb _ 1 c.if-version-eq1.false, unchosen _ _) c.write_whole.ensures
+returns c = rw (ne_eqb _ 1 c.if-to-eq1.false, unchosen _ _) c.write_whole.ensures

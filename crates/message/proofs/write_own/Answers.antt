@@ -4,4 +4,4 @@ use Rattle.message.proofs.write_own.Goals as goal
 
 pub returns : goal.returns
 unfolding own_header to_board
-returns c = c.write_to.ensures
+returns c = let e = c.default.ensures in rw (e.1.1.1.0, e.1.1.1.1.0) at c.write_to.ensures

@@ -2,4 +2,4 @@
 use Rattle.message.proofs.write_signed.Goals as goal
 
 pub returns : goal.returns
-returns c = rw c.signed_bytes-payload.ensures at c.write_own.ensures
+returns c = rw c.signed_bytes.ensures at c.write_own.ensures

@@ -1,28 +1,30 @@
--- `nodelist::fill` meets its contract: the types of the first i positions are filled in, and marked as long as a byte is open.
-use Prim.Native.Nat.{ℕ, ◌+◌}
-use mathlib.Core.Path.{sym, ap, ◌∙◌}
-use mathlib.Core.List.{List}
-use borrow.Author.Rules.{rules}
+-- `nodelist::fill` meets its contract: the types passed are filled in, and marked as long as a byte is open.
+use Rattle.std.proofs.Common.{◌≡◌, ℕ, ◌+◌, ◌<◌, List, ◌∷◌, Option, unwrap_or, get_or, sym, ap, ◌∙◌, arith, rules}
 use Rattle.nodelist.proofs.Open.{open_from}
-use Rattle.nodelist.proofs.Passes.{filling_begun, filling_end, filling_full, filling_over, filling_more}
+use Rattle.nodelist.proofs.Passes.{filling_begun, filling_full, filling_over, filling_more}
 use Rattle.nodelist.proofs.fill.Goals as goal
-use Rattle.nodelist.proofs.fill.Goals.{then-lowest-lt16+then-mark, then-lowest-lt16+else-mark, else-lowest-lt16}
+use Rattle.nodelist.proofs.fill.Goals.{then-mark, else-mark}
 
-pub loop-i-init : goal.loop-i-init
-loop-i-init c = (search rules, filling_begun _ c.requires.0 c.requires.1 _ c.open_from-lowest.ensures)
+pub loop-kind-init : goal.loop-kind-init
+loop-kind-init c = record { filling = filling_begun _ c.told-list c.requires _ c.open_from-lowest.ensures.found; within = c.open_from-lowest.ensures.within }
 
-pub loop-i-preserved : goal.loop-i-preserved
-loop-i-preserved c =
-    let at = c.loop-i in (
-      search rules,
-      elim c.if-lowest-lt16.branch [
-        | then-lowest-lt16+then-mark w ↦
-            filling_more _ _ _ at.i at.invariant.1 w.if-lowest-lt16.true w.mark.ensures.2 w.mark.ensures.0 (w.marks-is ∙ w.mark.ensures.1) w.if-mark.true w.list-is (w.lowest-is ∙ w.open_from-lowest-then-mark.ensures ∙ ap (λ (l : List ℕ). open_from l (at.lowest + 1)) (sym w.list-is))
-        | then-lowest-lt16+else-mark w ↦
-            rw (w.list-is, w.lowest-is) (filling_over _ _ _ at.i at.invariant.1 w.if-lowest-lt16.true w.mark.ensures.2 w.mark.ensures.0 (w.marks-is ∙ w.mark.ensures.1) w.if-mark.false)
-        | else-lowest-lt16 w ↦ rw (w.list-is, w.marks-is, w.lowest-is) (filling_full _ _ _ at.i at.invariant.1 w.if-lowest-lt16.false)
-      ],
-    )
+pub loop-kind-preserved : goal.loop-kind-preserved
+loop-kind-preserved c =
+    let at = c.loop-kind in
+    let f = rw c.in-Some.is at at.invariant.filling in
+    let fits : c.in-Some.i < 16 = search rules in
+    elim c.if-mark.branch [
+      | then-mark w ↦
+          record {
+            filling = filling_more _ _ _ at.kind-index f fits c.mark.ensures.2 c.mark.ensures.0 c.mark.ensures.1 w.if-mark.true w.list-is (ap (λ (o : Option ℕ). unwrap_or o 16) w.lowest-is ∙ w.open_from-lowest-then-mark.ensures.found ∙ ap (λ (l : List ℕ). open_from l (c.in-Some.i + 1)) (sym w.list-is));
+            within = rw w.lowest-is w.open_from-lowest-then-mark.ensures.within;
+          }
+      | else-mark w ↦
+          rw (w.list-is, w.lowest-is) (record { filling = filling_over _ _ _ at.kind-index f fits c.mark.ensures.2 c.mark.ensures.0 c.mark.ensures.1 w.if-mark.false; within = fits })
+    ]
 
-pub returns : goal.returns
-returns c = filling_end _ _ _ _ c.loop-i.invariant.1 c.loop-i.invariant.0 c.loop-i-test.false
+pub returns-in_default : goal.returns-in_default
+returns-in_default c =
+    let at = c.loop-kind in
+    let full : unwrap_or at.lowest 16 ≡ 16 = ap (λ (o : Option ℕ). unwrap_or o 16) c.in_default.is in
+    at.invariant.filling.0.0 ∙ ap (λ (l : List ℕ). get_or c.args.list.now 0 0 ∷ l) (sym (filling_full _ _ _ at.kind-index at.invariant.filling (omega (arith, full)) 40 at.auto.kind-index-end))

@@ -1,16 +1,18 @@
--- `nodelist::open_from` meets its contract: the lowest open byte of the whole is the lowest from i on.
-use mathlib.Core.Path.{refl}
-use Rattle.nodelist.proofs.Open.{open_hit, open_miss, open_none}
+-- `nodelist::open_from` meets its contract: the byte that the library finds is the lowest open one.
+use Rattle.std.proofs.Common.{rules, ◌≡◌, ℕ, ◌-◌, get_or, nat_eq, find, Option, None, Some, unwrap_or, refl, ap, ◌∙◌}
+use Rattle.std.specs.List.{range_with_len}
+use Rattle.std.specs.Option.{option_map}
+use Rattle.std.proofs.lemmas.Iterator.{YieldsList-from_range}
+use Rattle.std.proofs.lemmas.Iterator.Search.{find_from_yields_List}
+use Rattle.nodelist.proofs.Open.{open_found}
 use Rattle.nodelist.proofs.open_from.Goals as goal
 
-pub loop-i-init : goal.loop-i-init
-loop-i-init c = refl
+as_found : (o : Option ℕ) → o ≡ option_map (λ i. i) o
+as_found None = refl
+as_found (Some i) = refl
 
-pub returns-then-list-i-eq0 : goal.returns-then-list-i-eq0
-returns-then-list-i-eq0 c = open_hit c.args.list.now _ c.loop-i.invariant c.loop-i-test.true c.if-list-i-eq0.true
-
-pub loop-i-preserved : goal.loop-i-preserved
-loop-i-preserved c = open_miss c.args.list.now _ c.loop-i.invariant c.loop-i-test.true c.if-list-i-eq0.false
-
-pub returns : goal.returns
-returns c = open_none c.args.list.now _ c.loop-i.invariant c.loop-i-test.false
+pub returns-clause-found : goal.returns-clause-found
+returns-clause-found c =
+    let a = c.args in
+    let found : option_map (λ i. i) c.find.result ≡ find (λ i. nat_eq (get_or a.list.now i 0) 0) (range_with_len a.from (16 - a.from)) = find_from_yields_List (λ i. nat_eq (get_or a.list.now i 0) 0) _ _ c.find.result c.find.ensures.ran (YieldsList-from_range a.from 16 (16 - a.from) refl refl) (λ i b q k. search rules) in
+    ap (λ (o : Option ℕ). unwrap_or o 16) (as_found c.find.result ∙ found) ∙ open_found a.list.now a.from

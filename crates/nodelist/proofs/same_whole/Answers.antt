@@ -1,18 +1,13 @@
--- `nodelist::same_whole` meets its contract: the bytes below i have been compared.
-use borrow.Author.Rules.{rules}
-use native.Mathlib.Omega.{arith}
-use mathlib.Core.Path.{sym, ◌∙◌}
-use Rattle.nodelist.proofs.Bytes.{size_to, other_length, same_begun, same_step, same_end}
+-- `nodelist::same_whole` meets its contract: byte 0 is compared with the internal type, and the others with the types.
+use Rattle.std.proofs.Common.{◌∙◌}
+use Rattle.nodelist.proofs.Theorems.{whole_empty, whole_other, whole_rest}
 use Rattle.nodelist.proofs.same_whole.Goals as goal
 
-pub returns-then-received-n : goal.returns-then-received-n
-returns-then-received-n c = other_length _ _ (c.list_length-n.ensures ∙ sym (size_to _ _ _)) c.if-received-n.true
+pub returns-in-empty : goal.returns-in-empty
+returns-in-empty c = whole_empty _ _ _ c.told-kinds _ c.in-empty.len_below
 
-pub loop-i-init : goal.loop-i-init
-loop-i-init c = (search rules, search rules, omega arith, search rules, search rules, same_begun _ _ _ _)
+pub returns-then-first-internal : goal.returns-then-first-internal
+returns-then-first-internal c = c.eq.ensures ∙ whole_rest _ _ _ c.told-kinds _ _ c.min.ensures c.in-len1-up.len_at_least c.if-first-internal.true
 
-pub loop-i-preserved : goal.loop-i-preserved
-loop-i-preserved c = (search rules, search rules, search rules, search rules, search rules, same_step _ _ _ _ _ c.loop-i.invariant.5 c.loop-i.invariant.0 c.loop-i.invariant.3 c.loop-i-test.true)
-
-pub returns : goal.returns
-returns c = same_end _ _ _ c.loop-i.invariant.5 (c.loop-i.invariant.3 ∙ sym (size_to _ _ _)) c.loop-i.invariant.4 c.loop-i.invariant.1 c.loop-i-test.false
+pub returns-else-first-internal : goal.returns-else-first-internal
+returns-else-first-internal c = whole_other _ _ _ c.told-kinds _ c.in-len1-up.len_at_least c.if-first-internal.false

@@ -10,23 +10,21 @@ use Rattle.receive.proofs.receive.Goals as goal
 
 pub overflow_add-end : goal.overflow_add-end
 overflow_add-end c =
-    let read = read_frame _ _ c.in-Frame.is c.read.ensures in
+    let read = read_frame _ _ c.in-Ok.is c.read.ensures in
     omega (arith, read.count, read.bytes.small)
 
 pub slice_bounds-listened-end : goal.slice_bounds-listened-end
 slice_bounds-listened-end c =
-    let read = read_frame _ _ c.in-Frame.is c.read.ensures in
+    let read = read_frame _ _ c.in-Ok.is c.read.ensures in
     omega (arith, read.count, read.bytes.long)
 
-pub returns-in-Frame : goal.returns-in-Frame
-returns-in-Frame c =
+pub returns-in-Ok : goal.returns-in-Ok
+returns-in-Ok c =
     let args = c.args in
-    let call = c.read in
-    let subnet = c.read_in in
-    let read = read_frame _ _ c.in-Frame.is call.ensures in
-    λ co t s k. shows_as args.out.now _ (received_read s args.received.now _ (call.ensures ∙ ap (λ (n : ℕ). reading n args.received.now) (subnet.ensures ∙ read_seen s k.1 args.received.now)) c.in-Frame.is) ((rw (part_is read) at c.listened.ensures) args.received.now (brings_read read) co t s k)
+    let read = read_frame _ _ c.in-Ok.is c.read.ensures in
+    λ co t s k. shows_as args.out.now _ (received_read s args.received.now _ (c.read.ensures ∙ ap (λ (n : ℕ). reading n args.received.now) (c.read_in.ensures ∙ read_seen s k.1 args.received.now)) c.in-Ok.is) ((rw (part_is read) at c.listened.ensures) args.received.now (brings_read read) co t s k)
 
-pub returns-in-Refused : goal.returns-in-Refused
-returns-in-Refused c =
+pub returns-in-Err : goal.returns-in-Err
+returns-in-Err c =
     let args = c.args in
-    λ co t s k. shows_refused args.received.now args.out.now co t c.in-Refused.refusal (received_unread s args.received.now _ (c.read.ensures ∙ ap (λ (n : ℕ). reading n args.received.now) (c.read_in.ensures ∙ read_seen s k.1 args.received.now)) c.in-Refused.is) c.refusing.ensures
+    λ co t s k. shows_refused args.received.now args.out.now co t _ (received_unread s args.received.now _ (c.read.ensures ∙ ap (λ (n : ℕ). reading n args.received.now) (c.read_in.ensures ∙ read_seen s k.1 args.received.now)) c.in-Err.is) c.refusing.ensures

@@ -1,16 +1,19 @@
--- `routing::priority_kind` meets its contract: with the first i types of the list absent, the type is the first of the rest.
-use borrow.Author.Rules.{rules}
-use Rattle.routing.proofs.Lists.{rest_start, rest_hit, rest_miss, rest_none}
+-- `routing::priority_kind` meets its contract: the type that the library finds is the first of the list of which a board is listed.
+use Rattle.std.proofs.Common.{rules, ◌≡◌, ℕ, List, Option, unwrap_or, find, ap, ◌∙◌}
+use Rattle.std.specs.Option.{option_copied}
+use Rattle.std.proofs.lemmas.Iterator.{YieldsList-from_slice}
+use Rattle.std.proofs.lemmas.Iterator.Search.{find_from_yields_List}
+use Rattle.board.specs.Columns.{typed}
+use Rattle.routing.specs.Priority.{priority_list}
+use Rattle.routing.specs.Route.{has_kind, priority_kind}
+use Rattle.board.proofs.Searches.{found_first}
+use Rattle.routing.proofs.Lists.{kind_found}
 use Rattle.routing.proofs.priority_kind.Goals as goal
 
-pub loop-i-init : goal.loop-i-init
-loop-i-init c = (search rules, search rules, rest_start _ _ _ c.priority_list-list.ensures)
-
-pub returns-then-lowest-gt0 : goal.returns-then-lowest-gt0
-returns-then-lowest-gt0 c = rest_hit _ _ _ _ c.loop-i.invariant.2 (search rules) c.lowest.ensures c.if-lowest-gt0.true
-
-pub loop-i-preserved : goal.loop-i-preserved
-loop-i-preserved c = (search rules, search rules, rest_miss _ _ _ _ c.loop-i.invariant.2 (search rules) c.lowest.ensures c.if-lowest-gt0.false)
-
 pub returns : goal.returns
-returns c = rest_none _ _ _ _ c.loop-i.invariant.2 (search rules)
+unfolding priority_kind
+returns c =
+    let a = c.args in
+    let list : List ℕ = priority_list a.code in
+    let found : option_copied c.find.result ≡ find (has_kind (typed a.kinds.now) a.k) list = find_from_yields_List (has_kind (typed a.kinds.now) a.k) _ _ c.find.result c.find.ensures.ran (YieldsList-from_slice list cc) (λ x b q k. search (rules, kind_found)) in
+    ap (λ (o : Option ℕ). unwrap_or o 0) (c.copied.ensures ∙ found) ∙ found_first 0 (has_kind (typed a.kinds.now) a.k) list

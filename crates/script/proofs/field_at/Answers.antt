@@ -1,22 +1,23 @@
--- `script::field_at` meets its contract, by what `before` and `number` ensure of the word there.
-use native.Mathlib.Omega.{arith}
+-- `script::field_at` meets its contract, by what `word_at` and `number` ensure of the word there.
+use Rattle.std.proofs.Common.{arith}
+use Rattle.script.proofs.Words.{past_end}
 use Rattle.script.proofs.Numbers.{no_field, field_fits, field_over, field_other}
 use Rattle.script.proofs.field_at.Goals as goal
 
-pub returns-then-line-at : goal.returns-then-line-at
-returns-then-line-at c = (no_field _ _ _ c.if-line-at.true, λ h. omega arith)
+pub returns-in_default-clause-value : goal.returns-in_default-clause-value
+returns-in_default-clause-value c = no_field c.args.line.now c.args.at c.args.most c.in_default.ensures.value
 
-pub returns-then-value-most : goal.returns-then-value-most
-returns-then-value-most c = let args = c.args in
-    let next = c.before-n in
-    (field_fits args.line.now args.at args.most next.result c.if-line-at.false next.ensures.0 next.ensures.1.1 _ _ c.number.ensures c.in-Number.is (omega arith), λ h. omega arith)
+pub returns-in_default-clause-next : goal.returns-in_default-clause-next
+returns-in_default-clause-next c within = let past = past_end c.args.line.now c.args.at c.in_default.ensures.value in omega arith
 
-pub returns-else-value-most : goal.returns-else-value-most
-returns-else-value-most c = let args = c.args in
-    let next = c.before-n in
-    (field_over args.line.now args.at args.most next.result c.if-line-at.false next.ensures.0 next.ensures.1.1 _ _ c.number.ensures c.in-Number.is (omega arith), λ h. omega arith)
+pub returns-in-Some-number-clause-value : goal.returns-in-Some-number-clause-value
+returns-in-Some-number-clause-value c = let args = c.args in let word = c.in-Some in
+    field_fits args.line.now word.word.now args.at args.most word.next word.ensures.value c.in-Some-number.value c.in-Some-number.ensures c.if-value-most.true
 
-pub returns-in_default : goal.returns-in_default
-returns-in_default c = let args = c.args in
-    let next = c.before-n in
-    (field_other args.line.now args.at args.most next.result c.if-line-at.false next.ensures.0 next.ensures.1.1 _ c.number.ensures c.in_default.is (omega arith), λ h. omega arith)
+pub returns-in_default-number-clause-value : goal.returns-in_default-number-clause-value
+returns-in_default-number-clause-value c = let args = c.args in let word = c.in-Some in
+    field_over args.line.now word.word.now args.at args.most word.next word.ensures.value c.in-Some-number.value c.in-Some-number.ensures c.if-value-most.false
+
+pub returns-in_default-number-2-clause-value : goal.returns-in_default-number-2-clause-value
+returns-in_default-number-2-clause-value c = let args = c.args in let word = c.in-Some in
+    field_other args.line.now word.word.now args.at args.most word.next word.ensures.value c.in_default-number.ensures (omega arith)

@@ -1,35 +1,35 @@
--- `script::number` meets its contract: the bytes below i are digits, and n is what they are worth.
-use Prim.Native.Nat.{◌+◌}
+-- `script::number` meets its contract: the bytes so far are digits, and n is what they are worth.
 use native.Mathlib.Omega.{arith}
-use mathlib.Core.Path.{refl, sym, ap}
+use mathlib.Core.Path.{refl, sym, ◌∙◌}
+use borrow.Author.Tests.{eqb-true, eqb-false}
 use borrow.Author.Rules.{rules}
-use Rattle.ground.proofs.Choices.{choose_yes, choose_no}
-use Rattle.ground.proofs.Loops.{at_end}
-use Rattle.script.specs.declared.Worth.{Worth}
+use lib.ListN.{length}
 use Rattle.script.specs.Numbers.{worth_to}
-use Rattle.script.proofs.Numbers.{worth_more, digits_to, digits_none, digits_more, is_number_lem, no_digits, other_byte, does_fit, no_fit, too_much}
+use Rattle.script.proofs.Numbers.{digits_none, empty_told, other_told, over_told, number_told, digit_told}
 use Rattle.script.proofs.number.Goals as goal
 
-pub returns-then-word-eq0 : goal.returns-then-word-eq0
-returns-then-word-eq0 c = choose_no _ _ _ _ (no_fit _ _ (no_digits _ (omega arith))) refl
+pub returns-then-is_empty : goal.returns-then-is_empty
+returns-then-is_empty c = empty_told c.args.word.now (eqb-true _ _ (sym c.if-is_empty.ensures))
 
-pub loop-i-init : goal.loop-i-init
+pub loop-b-init : goal.loop-b-init
 unfolding worth_to
-loop-i-init c = (search rules, search rules, refl, digits_none _)
+loop-b-init c = (refl, digits_none _, search rules)
 
-pub returns-then-d-lt48 : goal.returns-then-d-lt48
-returns-then-d-lt48 c = choose_no _ _ _ _ (no_fit _ _ (other_byte _ _ c.loop-i-test.true (λ a b. omega arith))) refl
+pub returns-then-not-is_ascii_digit : goal.returns-then-not-is_ascii_digit
+returns-then-not-is_ascii_digit c = other_told _ c.loop-b.b-index c.loop-b-test.true (λ a b. omega (arith, c.if-not-is_ascii_digit.ensures.cases))
 
-pub returns-then-d-gt57 : goal.returns-then-d-gt57
-returns-then-d-gt57 c = choose_no _ _ _ _ (no_fit _ _ (other_byte _ _ c.loop-i-test.true (λ a b. omega arith))) refl
+pub returns-in_err-checked_mul : goal.returns-in_err-checked_mul
+returns-in_err-checked_mul c = let over = c.in_err-checked_mul.ensures in
+    c.from_residual.ensures ∙ over_told _ c.loop-b.b-index c.loop-b.n c.loop-b.invariant.0 c.loop-b-test.true (omega arith)
 
-pub returns-then-v-n : goal.returns-then-v-n
-returns-then-v-n c = choose_no _ _ _ _ (too_much _ _ (c.loop-i.i + 1) (omega arith) (rw worth_more (omega arith))) refl
+pub returns-in_err-n : goal.returns-in_err-n
+returns-in_err-n c = let over = c.in_err-n.ensures in let tens = c.in_ok-checked_mul.ensures in
+    c.from_residual-in_err-n.ensures ∙ over_told _ c.loop-b.b-index c.loop-b.n c.loop-b.invariant.0 c.loop-b-test.true (omega (arith, c.from.ensures))
 
-pub loop-i-preserved : goal.loop-i-preserved
-loop-i-preserved c = (search rules, omega arith, rw worth_more (omega arith), digits_more _ _ c.loop-i.invariant.3 c.if-d-lt48.false c.if-d-gt57.false)
+pub loop-b-preserved : goal.loop-b-preserved
+loop-b-preserved c = let tens = c.in_ok-checked_mul.ensures in let sum = c.in_ok-n.ensures in let digit = c.if-not-is_ascii_digit.ensures.cases in
+    digit_told _ c.loop-b.b-index c.loop-b.n _ c.loop-b.invariant.0 c.loop-b.invariant.1 digit.0 digit.1 (omega (arith, c.from.ensures)) (omega arith)
 
 pub returns : goal.returns
-returns c = let inv = c.loop-i.invariant in
-    let n = at_end (worth_to _) inv.2 inv.0 c.loop-i-test.false in
-    choose_yes _ _ _ _ (does_fit _ _ (is_number_lem _ (omega arith) (sym (at_end (digits_to _) (sym inv.3) inv.0 c.loop-i-test.false))) (omega arith)) (ap Worth.Number n)
+returns c = let some = eqb-false (length c.args.word.now) 0 (sym c.if-is_empty.ensures) in
+    number_told _ c.loop-b.b-index c.loop-b.n c.loop-b.invariant.0 c.loop-b.invariant.1 (omega arith) (omega arith) c.loop-b.invariant.2

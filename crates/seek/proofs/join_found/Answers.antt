@@ -6,4 +6,4 @@ use Rattle.seek.proofs.Seen.{saw_ended}
 use Rattle.seek.proofs.join_found.Goals as goal
 
 pub returns : goal.returns
-returns c = λ p co t s k. makes_ended p co t c.join-joined.result c.ending.ensures ∙ c.join-joined.ensures p (ended co) t (saw_ended s c.ended-rested.ensures) k
+returns c = λ p co t s k. makes_ended p co t c.join-joined.result c.ending.ensures ∙ c.join-joined.ensures p (ended co) t (saw_ended s c.ended.ensures) k

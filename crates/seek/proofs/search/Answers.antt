@@ -13,13 +13,13 @@ returns-then-position-eq0 c = λ p co t s k.
     let args = c.args in
     leaves_as (made c.refusing.result p co t) args.out.now _ (no_place co t (length args.out.now) (free_seen s k c.lowest-position.ensures) c.if-position-eq0.true) (makes_refusal p co t Full c.refusing.ensures, refl)
 
-pub returns-in-Written : goal.returns-in-Written
-returns-in-Written c = λ p co t s k.
+pub returns-in-Ok : goal.returns-in-Ok
+returns-in-Ok c = λ p co t s k.
     let args = c.args in
     let place = free_seen s k c.lowest-position.ensures in
-    leaves_searched co t (made c.changing.result p co t) args.out.now _ place c.if-position-eq0.false c.write_discovery.result c.write_discovery.ensures (rw c.in-Written.is (makes_searched p co t _ place c.changing.ensures))
+    leaves_searched co t (made c.changing.result p co t) args.out.now _ place c.if-position-eq0.false c.write_discovery.result c.write_discovery.ensures (rw c.in-Ok.is (makes_searched p co t _ place c.changing.ensures))
 
-pub returns-in-Refused : goal.returns-in-Refused
-returns-in-Refused c = λ p co t s k.
+pub returns-in-Err : goal.returns-in-Err
+returns-in-Err c = λ p co t s k.
     let args = c.args in
-    leaves_searched co t (made c.refusing-in-Refused.result p co t) args.out.now _ (free_seen s k c.lowest-position.ensures) c.if-position-eq0.false c.write_discovery.result c.write_discovery.ensures (rw c.in-Refused.is (makes_refusal p co t _ c.refusing-in-Refused.ensures))
+    leaves_searched co t (made c.refusing-in-Err.result p co t) args.out.now _ (free_seen s k c.lowest-position.ensures) c.if-position-eq0.false c.write_discovery.result c.write_discovery.ensures (rw c.in-Err.is (makes_refusal p co t _ c.refusing-in-Err.ensures))

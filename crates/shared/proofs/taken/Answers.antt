@@ -1,13 +1,12 @@
 -- `shared::taken` meets its contract.
-use borrow.Author.Tests.{lt-ltb, le-ltb}
-use Rattle.ground.proofs.Choices.{choose_yes, choose_no}
+use borrow.Author.Rules.{rules}
 use Rattle.shared.specs.Store.{taken}
+use Rattle.shared.proofs.Slots.{or_else_slot}
+use Rattle.shared.proofs.Laying.{taken_slot}
 use Rattle.shared.proofs.taken.Goals as goal
 
-pub returns-then-own-gt0 : goal.returns-then-own-gt0
+pub returns : goal.returns
 unfolding taken
-returns-then-own-gt0 c = choose_yes _ _ _ _ (lt-ltb _ _ (rw c.slot_of-own.ensures at c.if-own-gt0.true)) c.slot_of-own.ensures
-
-pub returns-else-own-gt0 : goal.returns-else-own-gt0
-unfolding taken
-returns-else-own-gt0 c = choose_no _ _ _ _ (le-ltb _ _ (rw c.slot_of-own.ensures at c.if-own-gt0.false)) c.free_slot.ensures
+returns c =
+    let number = or_else_slot _ _ _ _ c.slot_of.ensures.lowest c.or_else.ensures (λ p. search rules) in
+    record { number = number; within = taken_slot c.args.network.now c.args.sector _ number }

@@ -1,52 +1,21 @@
--- `shared::write_answer` meets its contract: the slot that holds the record lies in its image, and what is written is its record.
+-- `shared::write_answer` meets its contract: what is written is the payload of what is served.
 use native.Mathlib.Omega.{arith}
-use Prim.Native.Nat.{ℕ}
-use mathlib.Core.Path.{refl, sym, ap, ◌∙◌}
-use mathlib.Core.List.{List, [], ◌∷◌}
-use Rattle.shared.proofs.Looking.{found_network, found_factory, found_nobody, record_length, there}
-use Rattle.shared.proofs.Answers.{fits_in, answered, served_answer, no_answer, answer_refused}
+use mathlib.Core.Path.{refl, ap, ◌∙◌}
+use Rattle.std.specs.Prelude.{[], None}
+use Rattle.frame.specs.Frame.{told_written}
+use Rattle.refusal.proofs.Numbers.{exit}
+use Rattle.shared.proofs.Answers.{fits_in, answered, answer_refused}
 use Rattle.shared.proofs.write_answer.Goals as goal
 
-pub record_at-requires : goal.record_at-requires
-record_at-requires c =
-    let at = there _ _ _ (found_network _ _ _ _ c.in-Network.is c.holder.ensures) in
-    record { image_len = at.0; slot_nonzero = at.1.0; slot_value = at.1.1 }
+pub returns-in_err-held : goal.returns-in_err-held
+returns-in_err-held c =
+    let refused = answer_refused _ _ _ _ c.args.out.now c.in_err-held.ensures in
+    (ap told_written (exit _ _ c.from_residual.ensures.1) ∙ refused.0, refused.1)
 
-pub write_record-requires : goal.write_record-requires
-write_record-requires c =
-    let s = found_network _ _ _ _ c.in-Network.is c.holder.ensures in
-    let long = record_length _ _ _ s.holds in
-    rw c.record_at.ensures (omega (arith, long))
+pub returns-in-Some : goal.returns-in-Some
+returns-in-Some c = answered _ _ _ _ c.args.out.now _ (rw c.in-Some.is at c.in_ok-held.ensures) c.write_record.ensures
 
-pub record_at-requires-in-Factory : goal.record_at-requires-in-Factory
-record_at-requires-in-Factory c =
-    let at = there _ _ _ (found_factory _ _ _ _ c.in-Factory.is c.holder.ensures) in
-    record { image_len = at.0; slot_nonzero = at.1.0; slot_value = at.1.1 }
-
-pub write_record-requires-in-Factory : goal.write_record-requires-in-Factory
-write_record-requires-in-Factory c =
-    let s = found_factory _ _ _ _ c.in-Factory.is c.holder.ensures in
-    let long = record_length _ _ _ s.holds in
-    rw c.record_at-in-Factory.ensures (omega (arith, long))
-
-pub returns-in-Network : goal.returns-in-Network
-returns-in-Network c =
-    let args = c.args in
-    let s = found_network _ _ _ _ c.in-Network.is c.holder.ensures in
-    answered _ _ _ (args.sector ∷ c.record_at.result.now) args.out.now _ s.passes (served_answer _ _ _ _ _ s ∙ ap (λ (r : List ℕ). args.sector ∷ r) (sym c.record_at.ensures)) c.write_record.ensures
-
-pub returns-in-Factory : goal.returns-in-Factory
-returns-in-Factory c =
-    let args = c.args in
-    let s = found_factory _ _ _ _ c.in-Factory.is c.holder.ensures in
-    answered _ _ _ (args.sector ∷ c.record_at-in-Factory.result.now) args.out.now _ s.passes (served_answer _ _ _ _ _ s ∙ ap (λ (r : List ℕ). args.sector ∷ r) (sym c.record_at-in-Factory.ensures)) c.write_record-in-Factory.ensures
-
-pub returns-in-Nobody : goal.returns-in-Nobody
-returns-in-Nobody c =
-    let nobody = found_nobody _ _ _ c.in-Nobody.is c.holder.ensures in
+pub returns-in-None : goal.returns-in-None
+returns-in-None c =
     let out = c.args.out.now in
-    answered _ _ _ [] out _ nobody.0 (no_answer _ _ _ nobody.1) (fits_in [] out _ 0 refl (omega arith) refl)
-
-pub returns-in-Refused : goal.returns-in-Refused
-returns-in-Refused c =
-    answer_refused _ _ _ _ c.args.out.now c.in-Refused.is c.holder.ensures
+    answered _ _ _ None out _ (rw c.in-None.is at c.in_ok-held.ensures) (fits_in [] out _ 0 refl (omega arith) refl)

@@ -1,30 +1,27 @@
--- `start::begin` meets its contract: what the count and the judgement say is what setup does.
+-- `start::begin` meets its contract: what the judgement says is what setup does.
+use Prim.Native.Nat.{ℕ}
 use mathlib.Core.Path.{sym, ap, ◌∙◌}
-use Rattle.setup.specs.Setup.{told_of}
+use mathlib.Core.List.{List}
+use lib.ListN.{length}
+use Rattle.ground.proofs.Laid.{padded_whole}
 use Rattle.coordinator.specs.declared.Coordinator.{Coordinator}
 use Rattle.coordinator.specs.Fresh.{fresh}
+use Rattle.setup.specs.declared.Setup.{Setup}
 use Rattle.steps.specs.declared.Answer.TheVariants.{Rest}
 use Rattle.start.specs.Begin.{begun}
-use Rattle.start.proofs.Cases.{fine_length, begin_unfit, begin_refused, begin_fine}
+use Rattle.start.proofs.Cases.{fine_length, begin_refused, begin_fine}
 use Rattle.start.proofs.begin.Goals as goal
 
-pub returns-then-count-ne40 : goal.returns-then-count-ne40
-returns-then-count-ne40 c = c.leaving.ensures ∙ sym (begin_unfit
-    c.args.coordinator c.args.count c.args.addresses.now c.args.subnet c.args.internal c.args.mac c.args.session
-    c.if-count-ne40.true)
+pub returns-in-Err : goal.returns-in-Err
+returns-in-Err c =
+    let args = c.args in
+    c.leaving.ensures ∙ sym (begin_refused args.coordinator args.count args.addresses.now args.subnet args.internal args.mac args.session c.in-Err.refusal (sym c.in-Err.ensures))
 
-pub setup_of-setup-requires : goal.setup_of-setup-requires
-setup_of-setup-requires c = fine_length c.args.addresses.now c.args.mac (sym c.judge_setup-judged.ensures ∙ ap told_of c.in-Fine.is)
-
-pub returns-in-Refused : goal.returns-in-Refused
-returns-in-Refused c = c.leaving-in-Refused.ensures ∙
-    sym (begin_refused
-    c.args.coordinator c.args.count c.args.addresses.now c.args.subnet c.args.internal c.args.mac c.args.session
-    c.if-count-ne40.false c.in-Refused.refusal (sym c.judge_setup-judged.ensures ∙ ap told_of c.in-Refused.is))
-
-pub returns-in-Fine : goal.returns-in-Fine
-returns-in-Fine c = c.leaving-in-Fine.ensures ∙
-    ap (λ (k : Coordinator). begun k c.args.count Rest) (c.fresh-fresh.ensures ∙ ap fresh c.setup_of-setup.ensures) ∙
-    sym (begin_fine
-    c.args.coordinator c.args.count c.args.addresses.now c.args.subnet c.args.internal c.args.mac c.args.session
-    c.if-count-ne40.false (sym c.judge_setup-judged.ensures ∙ ap told_of c.in-Fine.is))
+pub returns : goal.returns
+returns c =
+    let args = c.args in
+    let forty = fine_length args.coordinator args.count args.addresses.now args.subnet args.internal args.mac args.session (sym c.in_default.ensures) in
+    let setup : List ℕ → Setup = λ pool. record { pool = pool; k = length args.addresses.now; subnet = args.subnet; internal = args.internal; mac = args.mac; session = args.session } in
+    c.leaving-2.ensures ∙
+    ap (λ (k : Coordinator). begun k args.count Rest) (c.fresh-fresh.ensures ∙ ap (λ (pool : List ℕ). fresh (setup pool)) (c.padded.ensures ∙ padded_whole args.addresses.now 40 forty)) ∙
+    sym (begin_fine args.coordinator args.count args.addresses.now args.subnet args.internal args.mac args.session (sym c.in_default.ensures))

@@ -6,8 +6,3 @@ use Rattle.stepping.proofs.counted.Goals as goal
 pub returns-then-count-ne-RECORDS : goal.returns-then-count-ne-RECORDS
 returns-then-count-ne-RECORDS c = let args = c.args in
     λ co t n k. unfit_decided co t args.event args.received.now args.out.now (unfit_counted co t (λ h. c.if-count-ne-RECORDS.true (sym n ∙ h))) c.refusing.ensures
-
-pub returns : goal.returns
-returns c = λ co t n k.
-    let known = k c.if-count-ne-RECORDS.false in
-    c.decide.ensures co t known.0 known.1

@@ -13,10 +13,7 @@ returns-in-Join c = let args = c.args in
 
 pub returns-in-Turn : goal.returns-in-Turn
 returns-in-Turn c = let args = c.args in
-    λ co t s k. rw c.in-Turn.is (c.turn.ensures args.received.now co t s (k.0.1, k.1.0, k.1.1, k.1.2))
-
-pub returns-in-Frame : goal.returns-in-Frame
-returns-in-Frame c = λ co t s k. rw c.in-Frame.is (c.receive.ensures co t s ((k.1.0, k.1.2, k.1.3), k.0.0))
+    λ co t s k. rw c.in-Turn.is (c.turn.ensures args.received.now co t s (k.0.1, (k.1.0, k.1.1, k.1.2)))
 
 pub returns-in-Quiet : goal.returns-in-Quiet
 returns-in-Quiet c = let args = c.args in

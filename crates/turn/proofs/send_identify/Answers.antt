@@ -13,4 +13,4 @@ pub returns : goal.returns
 returns c = λ p co t s k.
     let args = c.args in
     let wrote = c.write_identify-writing in
-    does_sent (due_identify co t args.position) p co t args.out.now _ (omega arith) wrote.result _ 0 Nothing _ c.sent.ensures c.seeking-next.ensures refl (edits_none t Nothing) refl wrote.ensures (header_seen s k args.position 123 0 (ap (λ (x : State). x.found.version) s.state) c.byte_at-index.ensures) refl
+    does_sent (due_identify co t args.position) p co t args.out.now _ (omega arith) wrote.result _ 0 Nothing _ c.sent.ensures c.seeking-next.ensures refl (edits_none t Nothing) refl wrote.ensures (header_seen s k args.position 123 0 (ap (λ (x : State). x.found.version) s.state) c.byte_at.ensures) refl

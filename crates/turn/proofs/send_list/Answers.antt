@@ -13,5 +13,5 @@ pub returns : goal.returns
 returns c = λ p co t s k.
     let args = c.args in
     let wrote = c.write_list-writing in
-    let version = c.byte_at-version.ensures ∙ version_seen s k.2 args.board in
-    does_sent (due_list co t args.board) p co t args.out.now _ (list_small (at t args.board).version co.setup.internal t) wrote.result _ args.board Unmarked _ c.sent.ensures c.waiting-next.ensures refl refl refl wrote.ensures (header_seen s k.1 args.board 20 0 version c.byte_at-index.ensures) (list_seen s k.0 k.2 version)
+    let version = version_seen s k.2 args.board in
+    does_sent (due_list co t args.board) p co t args.out.now _ (list_small (at t args.board).version co.setup.internal t) wrote.result _ args.board Unmarked _ c.sent.ensures c.waiting-next.ensures refl refl refl (rw c.addressed-to.ensures at wrote.ensures) (header_seen s k.1 args.board 20 0 version refl) (list_seen s k.0 k.2 version)

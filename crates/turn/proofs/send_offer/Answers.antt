@@ -16,5 +16,5 @@ pub returns : goal.returns
 returns c = λ p co t s k.
     let args = c.args in
     let wrote = c.write_signed-writing in
-    let version = c.byte_at-version.ensures ∙ version_seen s k.1 args.board in
-    does_sent (due_offer co t args.board) p co t args.out.now _ (signed_small co.setup 0) wrote.result (Offered args.board) 0 Nothing _ c.sent.ensures refl refl (edits_none t Nothing) refl wrote.ensures (header_seen s k.0 args.board 0 128 version c.byte_at-index.ensures) (ap (λ (x : Setup). signed x 0) s.setup)
+    let version = version_seen s k.1 args.board in
+    does_sent (due_offer co t args.board) p co t args.out.now _ (signed_small co.setup 0) wrote.result (Offered args.board) 0 Nothing _ c.sent.ensures refl refl (edits_none t Nothing) refl (rw c.addressed-to.ensures at wrote.ensures) (header_seen s k.0 args.board 0 128 version refl) (ap (λ (x : Setup). signed x 0) s.setup)

@@ -18,12 +18,9 @@ returns-then-seen-is_due c = λ p co t s k.
     let args = c.args in
     shows_as args.out.now _ (turn_nobody co t (length args.out.now) s.fit (stand_seen s c.phase_of-phase.ensures) c.is_awaiting.ensures c.if-is_awaiting.false (nobody_seen s) c.is_due.ensures c.if-seen-is_due.true) (makes_refusal p co t NobodyListed c.refusing-then-seen-is_due.ensures, refl)
 
-pub send_due-requires : goal.send_due-requires
-send_due-requires c = sym c.is_awaiting.ensures ∙ c.if-is_awaiting.false
-
 pub returns : goal.returns
 returns c = λ p co t s k.
     let args = c.args in
     let called = c.send_due in
     let phase = stand_seen s c.phase_of-phase.ensures in
-    shows_as args.out.now _ (turn_sends co t (length args.out.now) s.fit phase c.is_awaiting.ensures c.if-is_awaiting.false (nobody_seen s) c.is_due.ensures c.if-seen-is_due.false) (called.ensures p co t s (phase, k.0, k.1, k.2, k.3))
+    shows_as args.out.now _ (turn_sends co t (length args.out.now) s.fit phase c.is_awaiting.ensures c.if-is_awaiting.false (nobody_seen s) c.is_due.ensures c.if-seen-is_due.false) (called.ensures p co t s (phase, k.0, k.1))

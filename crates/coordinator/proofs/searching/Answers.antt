@@ -1,6 +1,0 @@
--- `coordinator::searching` meets its contract: what the calls gave.
-use mathlib.Core.Path.{refl}
-use Rattle.coordinator.proofs.searching.Goals as goal
-
-pub returns : goal.returns
-returns c = rw (c.stand_of-s.ensures, c.seeking.ensures) refl
