@@ -4,5 +4,6 @@ pub mod Accepted
 pub mod Acks
 pub mod Assignments
 pub mod Replied
+pub mod Told
 pub mod Unique
 pub mod Requests

@@ -39,7 +39,7 @@ module _ (ours : ℕ) (s : List ℕ) (i : ℕ) where
   passed_over e = begun ∙ not_left (can_begin ours s i) _ (not_left (takes_subnet ours (subnet_at s i)) (has_room s i) e)
 
   -- what it says of a start that one can begin there
-  begins_in : can_begin ours s i ≡ true → Room s i
+  pub begins_in : can_begin ours s i ≡ true → Room s i
   begins_in h = record { small = leb-true _ _ (and_left (leb (length_at s i) 240) _ has); inside = omega (arith, leb-true (12 + length_at s i) (length s - i) (and_right (leb (length_at s i) 240) _ has)) }
     where
       has : has_room s i ≡ true

@@ -1,33 +1,28 @@
--- Bytes copied over a part of a list; what stands in, before and behind what was pasted; bytes laid at a front.
+-- A loop that copies a list over a part of another; what stands in, before and behind what was pasted; bytes laid at a front.
 use Prim.Native.Nat.{ℕ, ◌+◌, ◌-◌, ◌≤◌, ◌<◌, min}
 use native.Mathlib.Omega.{arith}
+use native.Mathlib.Numerals.{add-one}
 use native.Mathlib.Nat.{add_assoc, zero-add}
 use mathlib.Core.Path.{◌≡◌, refl, sym, ap, ◌∙◌}
 use mathlib.Core.Logic.{◌⊎◌, inl, inr}
 use mathlib.Core.Bool.{Bool, true, false}
 use mathlib.Core.List.{List, ◌++◌, append_assoc}
-use Rattle.std.proofs.lemmas.List.{take_min, drop_min, length-take, length-replicate}
-use borrow.Rule.Slice.PartMut.{put_mid}
-use lib.ListN.{length, get_or, take, drop, replicate, length-append, length-drop, get_or-append}
-use lib.Seq.{paste, length-paste, length_paste_head, take-paste, drop-paste, take-length, take_all, take_at, drop_at, drop-drop, length-take-le, get_or-take, get_or-drop, get_or-append-add}
+use Rattle.std.proofs.lemmas.List.{take_min, length-take, length-replicate}
+use lib.ListN.{length, get_or, set, take, drop, replicate, length-append, length-drop, get_or-append}
+use lib.Seq.{paste, paste-zero, paste-suc, length-paste, length_paste_head, take-paste, drop-paste, take-length, take_all, take_at, drop_at, drop-drop, length-take-le, get_or-take, get_or-drop, get_or-append-add}
 use lib.Dec.{ltb}
 use borrow.Author.Tests.{ltb-true, ltb-false}
 use Rattle.ground.specs.Bytes.{laid, fitting, padded}
 use Rattle.ground.proofs.Runs.{run_alike}
 
--- as many bytes as fit from a place on, written from that place or the end, are pasted at the place
-pub paste_cut : (d s u : List ℕ) (at start n k : ℕ) → start ≡ min at (length d) → n ≡ min (length s) (length d - start) → k ≡ n → u ≡ take n s → put_mid start k d u ≡ paste d at s (fitting (length s) at (length d))
-unfolding fitting
-paste_cut d s u at start n k hs hn hk hu = rw (hu, front, behind, append_assoc, same) refl
-  where
-    same : n ≡ min (length s) (length d - at)
-    same = omega arith
+pub paste_none : (d : List ℕ) (at : ℕ) (s : List ℕ) → d ≡ paste d at s 0
+paste_none d at s = paste-zero d at s
 
-    front : take start d ≡ take at d
-    front = rw hs (take_min at d)
+pub paste_step : (d u : List ℕ) (at : ℕ) (s : List ℕ) (i : ℕ) → u ≡ paste d at s i → at + i < length d → i < length s → set u (at + i) (get_or s i 0) ≡ paste d at s (i + 1)
+paste_step d u at s i e h l = rw (e, add-one) (paste-suc d at s i 0 h l)
 
-    behind : drop k (drop start d) ≡ drop (at + n) d
-    behind = rw drop-drop (rw (let e : start + k ≡ min (at + n) (length d) = omega arith in e) (drop_min (at + n) d))
+pub paste_end : (d u : List ℕ) (at : ℕ) (s : List ℕ) (i n : ℕ) → u ≡ paste d at s i → i ≡ n → u ≡ paste d at s n
+paste_end d u at s i n e q = rw e (rw q refl)
 
 -- what was pasted stands from its place on
 pub paste_in : (d s : List ℕ) (at n i : ℕ) → at ≤ length d → n ≤ length s → i < n → get_or (paste d at s n) (at + i) 0 ≡ get_or s i 0

@@ -21,14 +21,16 @@ pub fn least(a: usize, b: usize) -> usize
     a.min(b)
 }
 
-// Copies bytes over out from `at` on, as many as there is room for.
-#[tactic(auto, using(crate::proofs::Laid::paste_cut))]
+// Copies bytes over out from `at` on, as many as there is room for. Byte by byte: by the library's `copy_from_slice` every archive with a writer would
+// need `memmove` of C's library, and those of display and shared data need nothing of it (include/nadrelgos.h).
 pub fn lay(out: &mut [u8], at: usize, bytes: &[u8])
     ensures { out.new ≡ paste out.old at bytes.now (fitting (length bytes.now) at (length out.old)) }
 {
     let start = at.min(out.len());
     let n = bytes.len().min(out.len() - start);
-    out[start..start + n].copy_from_slice(&bytes[..n]);
+    for i in 0..n {
+        out[start + i] = bytes[i];
+    }
 }
 
 // The bytes, and zeros in the places that they leave; as many bytes as there is room for.

@@ -14,7 +14,7 @@ use stepping::RECORDS;
 use steps::{Answer, Event, Outcome};
 
 // Which records a host amends by itself, from an index up to another, what is done to each, how many there are to number
-// where that moves indexes, and the packed answer. Where nothing is amended both ranges are empty, as `amending` has it.
+// where that moves indexes, and the packed answer. Where no record is amended the range is empty (from 0 up to 0, or behind the forty).
 #[derive(Clone, Copy)]
 pub struct Amendment {
     pub from: usize,

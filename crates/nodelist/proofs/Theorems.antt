@@ -82,7 +82,7 @@ pub at_most : (internal : ℕ) (t : List Node) → length (node_list internal t)
 at_most internal t = rw (list_size internal t) (omega (arith, highest_within t))
 
 -- what is compared, byte by byte
-unfoldable same_byte : List ℕ → List ℕ → ℕ → Bool
+unfoldable pub same_byte : List ℕ → List ℕ → ℕ → Bool
 same_byte sent bytes i = eqb (get_or bytes i 0) (get_or sent i 0)
 
 -- comparing says yes exactly where the bytes are those sent

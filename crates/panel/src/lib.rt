@@ -16,6 +16,7 @@ use board::{Node, Table};
 use change::Edit;
 use coordinator::Coordinator;
 use lent::Amendment;
+use look::Digest;
 use steps::{Event, Outcome, Stepped};
 
 // Setup: the fresh start, in place.
@@ -55,14 +56,15 @@ pub fn step(
 ) -> Outcome
     ensures { (in_place result coordinator.new nodes.new ≡ shows (step_of coordinator.old nodes.old event received.now (length out.old))) × (out.new ≡ laid (step_of coordinator.old nodes.old event received.now (length out.old)).bytes out.old) }
 {
-    let (seen, columns) = place::look(coordinator, nodes);
+    let mut digest = Digest::new();
+    let seen = place::look(coordinator, nodes, &mut digest);
     let node = place::record_at(nodes, seen.state.stand.board);
     let change = stepping::counted(
         nodes.len(),
         seen,
         node,
         &coordinator.kept.payload,
-        &columns,
+        &digest.columns,
         event,
         received,
         out,
@@ -71,7 +73,8 @@ pub fn step(
     change.outcome
 }
 
-// Records edited in place, and the first `all` counted anew.
+// Records edited in place, and the first `all` counted anew. Inline, so that what is refused costs its two callers no call.
+#[inline(always)]
 fn amended(nodes: &mut [Node], amendment: Amendment) -> u64
     ensures { amends result nodes.new ≡ amends amendment.answer (amended_by amendment nodes.old) }
 {
@@ -115,7 +118,8 @@ pub fn nadrelgos_mark(nodes: &mut [Node], position: usize) -> u64
     ensures { amends result nodes.new ≡ amend_of (length nodes.old) nodes.old (marking nodes.old position) }
 {
     let marked = lent::mark_edit(nodes.len(), position);
-    amended(nodes, Amendment { all: 0, ..marked })
+    place::amend(nodes, marked.from, marked.to, marked.edit);
+    marked.answer
 }
 
 // Setup on copies, which it lends: for a caller that keeps coordinator and records as values.

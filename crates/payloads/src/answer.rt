@@ -11,6 +11,33 @@ fn write_bytes<W: Write>(to: &mut W, bytes: &[u8]) -> io::Result<()> {
     writeln!(to)
 }
 
+// A line of words and a number: in pieces, since by one `writeln!` a script of short lines takes a tenth more instructions.
+fn write_number<W: Write>(to: &mut W, words: &[u8], n: u64) -> io::Result<()> {
+    to.write_all(words)?;
+    console::write_decimal(to, n)?;
+    to.write_all(b"\n")
+}
+
+// bad line L
+pub(crate) fn bad<W: Write>(to: &mut W, number: u64) -> io::Result<()> {
+    write_number(to, b"bad line ", number)
+}
+
+// image COUNT
+pub(crate) fn image<W: Write>(to: &mut W, size: usize) -> io::Result<()> {
+    write_number(to, b"image ", size as u64)
+}
+
+// stored SLOT
+pub(crate) fn stored<W: Write>(to: &mut W, slot: usize) -> io::Result<()> {
+    write_number(to, b"stored ", slot as u64)
+}
+
+// none
+pub(crate) fn none<W: Write>(to: &mut W) -> io::Result<()> {
+    to.write_all(b"none\n")
+}
+
 // refuse N
 pub(crate) fn refused<W: Write>(to: &mut W, refusal: Refusal) -> io::Result<()> {
     script::write_refused(to, refusal::number(refusal))

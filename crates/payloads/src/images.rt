@@ -2,7 +2,6 @@
 use crate::answer;
 use script::Line;
 use shared::Found;
-use std::alloc::{AllocError, Global};
 use std::io;
 use std::io::Write;
 
@@ -20,47 +19,73 @@ pub(crate) enum Asked<'a> {
     Answer { room: usize, sector: u8 },
 }
 
-// The network's copy of the shared data, and the factory image.
+// The network's copy of the shared data, or the factory image: the first of these bytes.
 #[derive(Drop)]
-pub(crate) struct Images {
-    network: Vec<u8>,
-    factory: Vec<u8>,
+struct Image {
+    bytes: [u8; LONGEST_IMAGE],
+    size: usize,
 }
 
-// image, answered: it is these bytes from now on, and stays as it was where the line is bad.
-fn set<W: Write>(image: &mut Vec<u8>, to: &mut W, line: Line<'_>, number: u64) -> io::Result<()> {
-    let mut bytes = vec![in *image.allocator(); 0; LONGEST_IMAGE]?;
-    let Some(size) = script::bytes_from(line.text, line.at, &mut bytes) else {
-        return writeln!(to, "bad line {number}");
-    };
-    bytes.truncate(size);
-    *image = bytes;
-    writeln!(to, "image {size}")
+impl Image {
+    // As many bytes as an image has, all 0.
+    fn blank() -> Image {
+        Image {
+            bytes: [0; LONGEST_IMAGE],
+            size: shared::IMAGE,
+        }
+    }
+
+    // image, answered: it is these bytes from now on, and stays as it was where the line is bad.
+    fn set<W: Write>(&mut self, to: &mut W, line: Line<'_>, number: u64) -> io::Result<()> {
+        let Some(size) = script::bytes_from(line.text, line.at, &mut self.bytes) else {
+            return answer::bad(to, number);
+        };
+        self.size = size;
+        answer::image(to, size)
+    }
+
+    fn bytes(&self) -> &[u8] {
+        &self.bytes[..script::within(self.size, &self.bytes)]
+    }
+}
+
+// The two images.
+#[derive(Drop)]
+pub(crate) struct Images {
+    network: Image,
+    factory: Image,
 }
 
 impl Images {
-    pub(crate) fn blank(alloc: Global) -> Result<Images, AllocError> {
-        Ok(Images {
-            network: vec![in alloc; 0; shared::IMAGE]?,
-            factory: vec![in alloc; 0; shared::IMAGE]?,
-        })
+    pub(crate) fn blank() -> Images {
+        Images {
+            network: Image::blank(),
+            factory: Image::blank(),
+        }
     }
 
     // store, answered.
     fn store<W: Write>(&mut self, to: &mut W, sector: u8, record: &[u8]) -> io::Result<()> {
-        match shared::store(&mut self.network, sector, record) {
-            Ok(slot) => writeln!(to, "stored {slot}"),
+        let size = script::within(self.network.size, &self.network.bytes);
+        match shared::store(&mut self.network.bytes[..size], sector, record) {
+            Ok(slot) => answer::stored(to, slot),
             Err(refusal) => answer::refused(to, refusal),
         }
     }
 
     // fetch, answered.
     fn fetch<W: Write>(&self, to: &mut W, sector: u8) -> io::Result<()> {
-        let record = shared::record(&self.network, &self.factory, sector);
-        match shared::holder(&self.network, &self.factory, sector) {
-            Ok(Some(Found::Network(_))) => answer::fetched(to, "network", record),
-            Ok(Some(Found::Factory(_))) => answer::fetched(to, "factory", record),
-            Ok(None) => writeln!(to, "none"),
+        let network = self.network.bytes();
+        let factory = self.factory.bytes();
+        // the record is asked for where there is one, since that looks for it anew
+        match shared::holder(network, factory, sector) {
+            Ok(Some(Found::Network(_))) => {
+                answer::fetched(to, "network", shared::record(network, factory, sector))
+            }
+            Ok(Some(Found::Factory(_))) => {
+                answer::fetched(to, "factory", shared::record(network, factory, sector))
+            }
+            Ok(None) => answer::none(to),
             Err(refusal) => answer::refused(to, refusal),
         }
     }
@@ -70,7 +95,7 @@ impl Images {
         let mut out = [0; 1024];
         let n = script::within(room, &out);
         let out = &mut out[..n];
-        let writing = shared::write_answer(&self.network, &self.factory, sector, out);
+        let writing = shared::write_answer(self.network.bytes(), self.factory.bytes(), sector, out);
         answer::written(to, writing, out)
     }
 
@@ -82,8 +107,8 @@ impl Images {
         number: u64,
     ) -> io::Result<()> {
         match asked {
-            Asked::SetNetwork(line) => set(&mut self.network, to, line, number),
-            Asked::SetFactory(line) => set(&mut self.factory, to, line, number),
+            Asked::SetNetwork(line) => self.network.set(to, line, number),
+            Asked::SetFactory(line) => self.factory.set(to, line, number),
             Asked::Store { sector, record } => self.store(to, sector, record),
             Asked::Fetch { sector } => self.fetch(to, sector),
             Asked::Answer { room, sector } => self.write_answer(to, room, sector),

@@ -79,23 +79,33 @@ fn play_line<W: Write>(
         Some(Order::Unwrap { subnet, frame }) => unwrap(to, subnet, frame),
         Some(Order::Write { room, what, bytes }) => write(to, room, what, bytes),
         Some(Order::Shared(asked)) => images.play(to, asked, number),
-        None => writeln!(to, "bad line {number}"),
+        None => answer::bad(to, number),
     }
 }
 
 // Plays the lines from first to last.
-fn play<W: Write>(to: &mut W, mut images: Images, lines: &[u8]) -> io::Result<()> {
+fn play<W: Write>(to: &mut W, lines: &[u8]) -> io::Result<()> {
+    let mut images = Images::blank();
     // The loop is each program's own: shared, it would take the program's step as a closure, and be no plainer than these lines.
-    for (number, line) in (1..).zip(lines.split(|b| *b == b'\n')) {
+    let mut number = 0;
+    let mut at = 0;
+    while let Some((line, next)) = script::line_at(lines, at) {
+        number += 1;
         play_line(to, &mut images, number, line)?;
+        at = next;
     }
     Ok(())
 }
 
+// Room for the longest script, on the stack: the program asks for no memory but its writer's.
+fn blank_script() -> [u8; script::LONGEST] {
+    [0; script::LONGEST]
+}
+
 fn main(rt: HostRuntime) -> io::Result<()> {
-    let mut input = vec![in rt.alloc(); 0; script::LONGEST]?;
+    let mut input = blank_script();
     let n = console::read_full(&mut rt.reader(), &mut input)?;
     let mut to = BufWriter::new(rt.alloc(), io::writer(&rt))?;
-    play(&mut to, Images::blank(rt.alloc())?, &input[..n])?;
+    play(&mut to, &input[..n])?;
     to.flush()
 }

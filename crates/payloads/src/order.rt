@@ -121,8 +121,8 @@ fn wrap<'a>(mut line: Line<'_>, bytes: &'a mut [u8]) -> Option<Order<'a>> {
 // network HEX, factory HEX
 fn image<'a>(mut line: Line<'a>) -> Option<Asked<'a>> {
     match line.word()? {
-        b"network" => Some(Asked::SetNetwork(line)),
-        b"factory" => Some(Asked::SetFactory(line)),
+        word if script::same(word, b"network") => Some(Asked::SetNetwork(line)),
+        word if script::same(word, b"factory") => Some(Asked::SetFactory(line)),
         _ => None,
     }
 }
@@ -155,20 +155,20 @@ pub(crate) fn read_line<'a>(text: &'a [u8], bytes: &'a mut [u8]) -> Option<Order
     }
     let mut line = Line { text, at: 0 };
     match line.word()? {
-        b"read-display" => Some(Order::ReadDisplay {
+        word if script::same(word, b"read-display") => Some(Order::ReadDisplay {
             payload: read_hex(line, bytes)?,
         }),
-        b"write-display" => write_display(line, bytes),
-        b"read-diagnostics" => Some(Order::ReadDiagnostics {
+        word if script::same(word, b"write-display") => write_display(line, bytes),
+        word if script::same(word, b"read-diagnostics") => Some(Order::ReadDiagnostics {
             payload: read_hex(line, bytes)?,
         }),
-        b"write-diagnostics" => write_diagnostics(line, bytes),
-        b"unwrap" => unwrap(line, bytes),
-        b"wrap" => wrap(line, bytes),
-        b"image" => image(line).map(Order::Shared),
-        b"store" => store(line, bytes).map(Order::Shared),
-        b"fetch" => fetch(line).map(Order::Shared),
-        b"write-answer" => write_answer(line).map(Order::Shared),
+        word if script::same(word, b"write-diagnostics") => write_diagnostics(line, bytes),
+        word if script::same(word, b"unwrap") => unwrap(line, bytes),
+        word if script::same(word, b"wrap") => wrap(line, bytes),
+        word if script::same(word, b"image") => image(line).map(Order::Shared),
+        word if script::same(word, b"store") => store(line, bytes).map(Order::Shared),
+        word if script::same(word, b"fetch") => fetch(line).map(Order::Shared),
+        word if script::same(word, b"write-answer") => write_answer(line).map(Order::Shared),
         _ => None,
     }
 }

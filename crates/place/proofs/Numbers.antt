@@ -34,11 +34,11 @@ counts kind n node = min (n + one (wants (Kind kind) node)) 255
 
 -- how many before an index are of a type: none before the first, and one more if the next is
 module _ (t : List Node) (kind : ℕ) where
-  kind_none : 0 ≡ min (of_kind_below t kind (0 + 1)) 255
+  pub kind_none : 0 ≡ min (of_kind_below t kind (0 + 1)) 255
   unfolding count at
   kind_none = refl
 
-  kind_more : (j n r : ℕ) → n ≡ min (of_kind_below t kind (j + 1)) 255 → r ≡ counts kind n (get_or t j none) → r ≡ min (of_kind_below t kind (j + 1 + 1)) 255
+  pub kind_more : (j n r : ℕ) → n ≡ min (of_kind_below t kind (j + 1)) 255 → r ≡ counts kind n (get_or t j none) → r ≡ min (of_kind_below t kind (j + 1 + 1)) 255
   kind_more j n r en er = omega (arith, en, er, count_more (wanted_at (Kind kind) t) (j + 1), ap (λ (y : Node). one (wants (Kind kind) y)) (at_next t j))
 
   -- so many do the first records add up to, and past the records there is nobody

@@ -19,7 +19,8 @@ use Rattle.coordinator.specs.declared.State.{State}
 use Rattle.coordinator.specs.declared.Coordinator.{Coordinator}
 use Rattle.coordinator.specs.State.{state_of}
 use Rattle.look.specs.declared.Seen.{Seen}
-use Rattle.look.specs.Digest.{zeroed, digest_all, noted_in}
+use Rattle.look.specs.declared.Digest.{Digest}
+use Rattle.look.specs.Digest.{digest_all, noted_in}
 use Rattle.change.specs.declared.Edit.{Edit}
 use Rattle.change.specs.declared.Change.{Change}
 use Rattle.change.specs.Change.{changed_from, amended}
@@ -46,15 +47,15 @@ abbrev Amends : Type 0
 Amends = MutBor (List Node) × (ℕ × (ℕ × (Edit × Unit {0})))
 
 abbrev Looks : Type 0
-Looks = Bor Coordinator × (Bor (List Node) × Unit {0})
+Looks = Bor Coordinator × (Bor (List Node) × (MutBor Digest × Unit {0}))
 
--- what looking says of its answer
-abbrev SaysSeen : Looks → Seen × Columns → Type 0
-SaysSeen a r = (r.0.setup ≡ a.0.now.setup) × ((r.0.state ≡ state_of a.0.now) × (noted_in r.0 r.1 ≡ digest_all a.0.now.setup.k a.1.0.now zeroed))
+-- what looking says of its answer, and of the digest at exit
+abbrev SaysSeen : Looks → Seen → Looks → Type 0
+SaysSeen a r s = (r.setup ≡ a.0.now.setup) × ((r.state ≡ state_of a.0.now) × ((noted_in r s.1.1.0.now.columns ≡ s.1.1.0.now) × (s.1.1.0.now ≡ digest_all a.0.now.setup.k a.1.0.now a.1.1.0.now)))
 
 -- what was seen is one where its parts are
-same_seen : (r q : Seen × Columns) → r.0.setup ≡ q.0.setup → r.0.state ≡ q.0.state → noted_in r.0 r.1 ≡ noted_in q.0 q.1 → r ≡ q
-same_seen r q e f g i = (record { setup = e i; state = f i; ok = (g i).ok; top = (g i).top; owed = (g i).owed }, (g i).columns)
+same_seen : (r q : Seen) (columns others : Columns) → r.setup ≡ q.setup → r.state ≡ q.state → noted_in r columns ≡ noted_in q others → r ≡ q
+same_seen r q columns others e f g i = record { setup = e i; state = f i; ok = (g i).ok; top = (g i).top; owed = (g i).owed }
 
 abbrev Makes : Type 0
 Makes = MutBor Coordinator × (MutBor (List Node) × (State × (Change × (Bor (List ℕ) × Unit {0}))))
@@ -81,9 +82,10 @@ module _ {M : Type 1} {𝓤 : Ura M} (𝓛 : Logic 𝓤) (at_mem : Memory → SP
   unique_number κs a r q s t =
       two_facts 𝓤 (s.0.now ≡ numbered_first a.0.now (min (length a.0.now) a.1.0)) (t.0.now ≡ numbered_first a.0.now (min (length a.0.now) a.1.0)) _ (λ p p'. p ∙ sym p')
 
-  pub unique_look : (κs : Lft × (Lft × Unit {0})) (a : Looks) (r q : Seen × Columns) (s t : Looks)
-      → ent 𝓤 (sep 𝓤 ((look.clauses 𝓛 at_mem run κs a).ensures tt r s) ((look.clauses 𝓛 at_mem run κs a).ensures tt q t)) (fact 𝓤 (r ≡ q))
-  unique_look κs a r q s t = two_facts 𝓤 (SaysSeen a r) (SaysSeen a q) _ (λ p p'. same_seen r q (p.0 ∙ sym p'.0) (p.1.0 ∙ sym p'.1.0) (p.1.1 ∙ sym p'.1.1))
+  pub unique_look : (κs : Lft × (Lft × (Lft × Unit {0}))) (a : Looks) (r q : Seen) (s t : Looks)
+      → ent 𝓤 (sep 𝓤 ((look.clauses 𝓛 at_mem run κs a).ensures tt r s) ((look.clauses 𝓛 at_mem run κs a).ensures tt q t)) (fact 𝓤 ((r ≡ q) × (s.1.1.0.now ≡ t.1.1.0.now)))
+  unique_look κs a r q s t =
+      two_facts 𝓤 (SaysSeen a r s) (SaysSeen a q t) _ (λ p p'. let same = p.1.1.1 ∙ sym p'.1.1.1 in (same_seen r q _ _ (p.0 ∙ sym p'.0) (p.1.0 ∙ sym p'.1.0) (p.1.1.0 ∙ same ∙ sym p'.1.1.0), same))
 
   pub unique_make : (κs : Lft × (Lft × (Lft × Unit {0}))) (a : Makes) (r q : Unit {0}) (s t : Makes)
       → ent 𝓤 (sep 𝓤 ((make.clauses 𝓛 at_mem run κs a).ensures tt r s) ((make.clauses 𝓛 at_mem run κs a).ensures tt q t)) (fact 𝓤 ((s.0.now ≡ t.0.now) × (s.1.0.now ≡ t.1.0.now)))

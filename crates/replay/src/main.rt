@@ -100,14 +100,23 @@ impl World {
 fn play<W: Write>(to: &mut W, lines: &[u8]) -> io::Result<()> {
     let mut world = World::new();
     // The loop is each program's own: shared, it would take the program's step as a closure, and be no plainer than these lines.
-    for (number, line) in (1..).zip(lines.split(|b| *b == b'\n')) {
+    let mut number = 0;
+    let mut at = 0;
+    while let Some((line, next)) = script::line_at(lines, at) {
+        number += 1;
         world.play(to, number, line)?;
+        at = next;
     }
     Ok(())
 }
 
+// Room for the longest script, on the stack: the program asks for no memory but its writer's.
+fn blank_script() -> [u8; script::LONGEST] {
+    [0; script::LONGEST]
+}
+
 fn main(rt: HostRuntime) -> io::Result<()> {
-    let mut input = vec![in rt.alloc(); 0; script::LONGEST]?;
+    let mut input = blank_script();
     let n = console::read_full(&mut rt.reader(), &mut input)?;
     let mut to = BufWriter::new(rt.alloc(), io::writer(&rt))?;
     play(&mut to, &input[..n])?;

@@ -95,13 +95,13 @@ pub(crate) fn read_line<'a>(text: &[u8], bytes: &'a mut [u8]) -> Option<Order<'a
     }
     let mut line = Line { text, at: 0 };
     match line.word()? {
-        b"setup" => read_setup(line, bytes),
-        b"join" => read_join(line),
-        b"turn" => read_turn(line, Event::Turn),
-        b"discover" => read_turn(line, Event::Discover),
-        b"frame" => read_frame(line, bytes),
-        b"quiet" => last(line, plain_step(Event::Quiet, 0)),
-        b"table" => last(line, Order::Table),
+        word if script::same(word, b"setup") => read_setup(line, bytes),
+        word if script::same(word, b"join") => read_join(line),
+        word if script::same(word, b"turn") => read_turn(line, Event::Turn),
+        word if script::same(word, b"discover") => read_turn(line, Event::Discover),
+        word if script::same(word, b"frame") => read_frame(line, bytes),
+        word if script::same(word, b"quiet") => last(line, plain_step(Event::Quiet, 0)),
+        word if script::same(word, b"table") => last(line, Order::Table),
         _ => None,
     }
 }

@@ -1,5 +1,5 @@
 -- The laws of bytes in hex: what a digit is worth, what stands where in the bytes of a word and in the spelling of bytes, and what is read from a place of a line.
-use Prim.Native.Nat.{ℕ, zero, suc, ◌+◌, ◌*◌, ◌/◌, ◌%◌, ◌≤◌, ◌<◌}
+use Prim.Native.Nat.{ℕ, zero, suc, ◌+◌, ◌-◌, ◌*◌, ◌/◌, ◌%◌, ◌≤◌, ◌<◌}
 use native.Mathlib.Omega.{arith}
 use mathlib.Core.Path.{◌≡◌, refl, sym, ap, ◌∙◌}
 use mathlib.Core.List.{List, [], ◌∷◌, ◌++◌}
@@ -7,19 +7,15 @@ use mathlib.Core.Bool.{true, false, ◌&&◌, cond}
 use lib.ListN.{length, get_or, set, take, drop, length-map, length-take}
 use lib.Dec.{eqb, leb, ltb}
 use borrow.Author.Tests.{lt-ltb, le-ltb, eq-eqb, ne_eqb, ltb-true, leb-true}
-use borrow.Author.Rules.{rules}
 use native.Mathlib.Decide.{dec_lt}
-use Rattle.std.specs.Prelude.{Option, Some, None, Result, Ok, Err, OnOk, IsSome, MatchOption}
+use Rattle.std.specs.Prelude.{Option, Some, None, Result, Ok, Err, OnOk}
 use Rattle.std.specs.Io.KnownBytes.{Appends}
 use Rattle.std.proofs.KnownBytes.{Appends-trans}
-use Rattle.std.specs.Option.{SomeIff}
-use Rattle.std.specs.List.{list_all}
 use Rattle.std.specs.Fmt.{decimal}
 use Rattle.std.proofs.Common.{subst, append-nil, take_all}
 use Rattle.std.proofs.lemmas.List.{take_at}
-use Rattle.std.specs.Char.{digit_value, is_ascii_hexdigit}
+use Rattle.std.specs.Char.{digit_value}
 use Rattle.std.proofs.lemmas.Bool.Decides.{nat_tests}
-use Rattle.std.proofs.lemmas.List.Folds.{list_all_more}
 use Rattle.ground.specs.Below.{up_from, all}
 use Rattle.ground.specs.Bytes.{laid}
 use Rattle.ground.proofs.Choices.{choose_yes, choose_no, chosen, unchosen, and_left, and_right}
@@ -29,34 +25,30 @@ use Rattle.ground.proofs.Runs.{run_length, run_map_at, rest_is}
 use Rattle.ground.specs.Choose.{choose}
 use Rattle.script.specs.Hex.{nibble, all_hex, is_hex, pair_at, hex_bytes, hex_count, hex_laid, bytes_count, bytes_laid, glyph, spelled, spellable, counted}
 use Rattle.script.proofs.Words.{rest}
+use Rattle.script.proofs.Numbers.{between_yes, between_no}
 
 -- what the library says of a hex digit
 pub nibble_is : (b : ℕ) → nibble b ≡ cond (ltb (digit_value b) 16) (digit_value b) 16
 unfolding nibble choose
 nibble_is b = grind (arith, nat_tests)
 
-pub nibble_told : (b : ℕ) (o : Option ℕ) → SomeIff o (digit_value b < 16) (digit_value b) → MatchOption o (nibble b ≡ 16) (λ d. (d ≡ nibble b) × (d < 16))
-nibble_told b None h = nibble_is b ∙ rw (le-ltb (digit_value b) 16 (omega (arith, h))) refl
-nibble_told b (Some d) h = let e : nibble b ≡ digit_value b = nibble_is b ∙ rw (lt-ltb (digit_value b) 16 h.0) refl in (h.1 ∙ sym e, omega (arith, h))
+-- what each hex digit is worth, and a byte that is none
+module _ (b : ℕ) where
+  pub digit_nibble : 48 ≤ b → b ≤ 57 → b - 48 ≡ nibble b
+  unfolding nibble
+  digit_nibble h l = choose_yes _ _ _ _ (between_yes 48 57 b h l) refl
 
--- a byte that is worth less than 16 is a digit
-pub digit_there : (o : Option ℕ) (x : ℕ) → MatchOption o (x ≡ 16) (λ d. (d ≡ x) × (d < 16)) → x < 16 → IsSome o
-digit_there None x h l = absurd (let z : ⊥ = omega (arith, h) in z)
-digit_there (Some d) x h l = search rules
+  pub upper_nibble : 65 ≤ b → b ≤ 70 → b - 55 ≡ nibble b
+  unfolding nibble
+  upper_nibble h l = choose_no _ _ _ _ (between_no 48 57 b (λ x y. omega arith)) (choose_yes _ _ _ _ (between_yes 65 70 b h l) refl)
 
-digit_told : (b : ℕ) → is_ascii_hexdigit b ≡ ltb (nibble b) 16
-digit_told b = rw nibble_is (grind (arith, nat_tests))
+  pub lower_nibble : 97 ≤ b → b ≤ 102 → b - 87 ≡ nibble b
+  unfolding nibble
+  lower_nibble h l = choose_no _ _ _ _ (between_no 48 57 b (λ x y. omega arith)) (choose_no _ _ _ _ (between_no 65 70 b (λ x y. omega arith)) (choose_yes _ _ _ _ (between_yes 97 102 b h l) refl))
 
--- and of all bytes of a word
-fronts : (word : List ℕ) (i : ℕ) → i ≤ length word → list_all is_ascii_hexdigit (take i word) ≡ all (λ j. ltb (nibble (get_or word j 0)) 16) i
-unfolding all
-fronts word zero h = refl
-fronts word (suc i) h =
-    ap (λ n. list_all is_ascii_hexdigit (take n word)) (let e : suc i ≡ i + 1 = omega arith in e) ∙ list_all_more is_ascii_hexdigit word i 0 (omega arith)
-    ∙ (λ k. fronts word i (omega arith) k && digit_told (get_or word i 0) k)
-
-pub all_hex_is : (word : List ℕ) → list_all is_ascii_hexdigit word ≡ all_hex word
-all_hex_is word = ap (list_all is_ascii_hexdigit) (sym (take_all (length word) word (omega arith))) ∙ fronts word (length word) (omega arith)
+  pub no_nibble : (48 ≤ b → b ≤ 57 → ⊥) → (65 ≤ b → b ≤ 70 → ⊥) → (97 ≤ b → b ≤ 102 → ⊥) → 16 ≡ nibble b
+  unfolding nibble
+  no_nibble f g h = choose_no _ _ _ _ (between_no 48 57 b f) (choose_no _ _ _ _ (between_no 65 70 b g) (choose_no _ _ _ _ (between_no 97 102 b h) refl))
 
 -- a hex digit is worth less than 16
 digit_small : (word : List ℕ) (i : ℕ) → all_hex word ≡ true → i < length word → nibble (get_or word i 0) < 16

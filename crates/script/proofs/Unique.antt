@@ -9,6 +9,7 @@ use Rattle.script.specs.declared.Line.{Line}
 use Rattle.script.proofs.within.Reads as within
 use Rattle.script.proofs.is_passed.Reads as is-passed
 use Rattle.script.proofs.before.Reads as before
+use Rattle.script.proofs.line_at.Reads as line-at
 use Rattle.script.proofs.same.Reads as same
 use Rattle.script.proofs.field_at.Reads as field_at
 use Rattle.script.proofs.bytes_from.Reads as bytes-from
@@ -28,6 +29,9 @@ unique_is_passed κs a s t r q p p' = p ∙ sym p'
 
 pub unique_before : (κs a s t : _) (r q : ℕ) → before.Post κs a r s → before.Post κs a q t → r ≡ q
 unique_before κs a s t r q p p' = p.0 ∙ sym p'.0
+
+pub unique_line_at : (κs a s t : _) (r q : Option (Bor (List ℕ) × ℕ)) → line-at.Post κs a r s → line-at.Post κs a q t → option_map {U = List ℕ × ℕ} (λ l. (l.0.now, l.1)) r ≡ option_map (λ l. (l.0.now, l.1)) q
+unique_line_at κs a s t r q p p' = p.0 ∙ sym p'.0
 
 pub unique_same : (κs a s t : _) (r q : Bool) → same.Post κs a r s → same.Post κs a q t → r ≡ q
 unique_same κs a s t r q p p' = p ∙ sym p'

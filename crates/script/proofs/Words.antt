@@ -21,7 +21,7 @@ use Rattle.ground.specs.Below.{all}
 use Rattle.ground.proofs.Loops.{all_at, all_of}
 use Rattle.ground.proofs.Choices.{choose_yes, choose_no, and_left, and_right, both}
 use Rattle.ground.proofs.Runs.{rest_is}
-use Rattle.script.specs.Words.{is_at, before, same, word_at, word_from}
+use Rattle.script.specs.Words.{is_at, before, same, part_at, part_from}
 
 -- what code reads from a place of the line on
 abbrev pub rest : List ℕ → ℕ → List ℕ
@@ -62,24 +62,24 @@ before_told mark text p n h e = go (dec_lt first (length text))
         let told : n ≡ length text = e ∙ rw found refl in
         ((let z : n ≡ first = omega arith in z) ∙ before_none mark text first none most (omega arith), prefix_len_of_le n text (omega arith))
 
--- the word at a place, as it is read: past the line's end, or the n bytes that begin there
-pub no_word : (line : List ℕ) (at : ℕ) → length line < at → None ≡ word_from line at
-no_word line at l = choose_yes _ _ _ _ (lt-ltb _ _ l) refl
+-- the part at a place, as it is read: past the text's end, or the n bytes that begin there
+pub no_part : (mark : ℕ) (text : List ℕ) (at : ℕ) → length text < at → None ≡ part_from mark text at
+no_part mark text at l = choose_yes _ _ _ _ (lt-ltb _ _ l) refl
 
--- and no word stands past its end alone
-pub past_end : (line : List ℕ) (at : ℕ) → None ≡ word_from line at → length line < at
-past_end line at e = go (ltb (length line) at) refl
+-- and none begins past its end alone
+pub past_end : (mark : ℕ) (text : List ℕ) (at : ℕ) → None ≡ part_from mark text at → length text < at
+past_end mark text at e = go (ltb (length text) at) refl
   where
-    go : (b : Bool) → ltb (length line) at ≡ b → length line < at
+    go : (b : Bool) → ltb (length text) at ≡ b → length text < at
     go true h = ltb-true _ _ h
     go false h =
-        let there : Some (word_at line at, at + length (word_at line at) + 1) ≡ word_from line at = choose_no _ _ _ _ h refl in
+        let there : Some (part_at mark text at, at + length (part_at mark text at) + 1) ≡ part_from mark text at = choose_no _ _ _ _ h refl in
         absurd (let z : ⊥ = cc in z)
 
-pub word_there : (line r : List ℕ) (at n : ℕ) → at ≤ length line → r ≡ rest line at → n ≡ before 32 r → n ≡ length (take n r) → Some (take n r, at + n + 1) ≡ word_from line at
-word_there line r at n within e b l =
-    let word : take n r ≡ word_at line at = ap (λ (m : ℕ). take m r) b ∙ ap (λ (s : List ℕ). take (before 32 s) s) (e ∙ rest_is line at) in
-    choose_no _ _ _ _ (le-ltb _ _ within) (ap (λ (m : ℕ). Some (take n r, at + m + 1)) l ∙ ap (λ (w : List ℕ). Some (w, at + length w + 1)) word)
+pub part_there : (mark : ℕ) (text r : List ℕ) (at n : ℕ) → at ≤ length text → r ≡ rest text at → n ≡ before mark r → n ≡ length (take n r) → Some (take n r, at + n + 1) ≡ part_from mark text at
+part_there mark text r at n within e b l =
+    let part : take n r ≡ part_at mark text at = ap (λ (m : ℕ). take m r) b ∙ ap (λ (s : List ℕ). take (before mark s) s) (e ∙ rest_is text at) in
+    choose_no _ _ _ _ (le-ltb _ _ within) (ap (λ (m : ℕ). Some (take n r, at + m + 1)) l ∙ ap (λ (w : List ℕ). Some (w, at + length w + 1)) part)
 
 -- two words compare as one exactly where they are one
 pub same_exactly : (a b : List ℕ) → (same a b ≡ true) ↔ (a ≡ b)

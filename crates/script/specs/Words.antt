@@ -16,17 +16,29 @@ is_passed line = eqb (length line) 0 || is_at 35 line 0
 unfoldable pub before : ℕ → List ℕ → ℕ
 before mark text = first_or (length text) (is_at mark text) (up_from 0 (length text))
 
+-- the part of a text that begins at a place: up to the next of this mark, or to the end (house)
+abbrev pub part_at : ℕ → List ℕ → ℕ → List ℕ
+part_at mark text at = take (before mark (drop at text)) (drop at text)
+
 -- the word that begins at a place: up to the next space, or to the end of the line (docs/REPLAY.md, "A script")
 abbrev pub word_at : List ℕ → ℕ → List ℕ
-word_at line at = take (before 32 (drop at line)) (drop at line)
+word_at line at = part_at 32 line at
 
 -- two words are one: as long, and alike at each byte (house)
 unfoldable pub same : List ℕ → List ℕ → Bool
 same a b = eqb (length a) (length b) && all (λ i. eqb (get_or a i 0) (get_or b i 0)) (length b)
 
--- that word, and where the next one begins, past the line's end where there is none; none past the line's end (docs/REPLAY.md, "A script")
+-- that part, and where the next one begins, past the text's end where there is none; none past the text's end (house)
+abbrev pub part_from : ℕ → List ℕ → ℕ → Option (List ℕ × ℕ)
+part_from mark text at = choose (ltb (length text) at) None (Some (part_at mark text at, at + length (part_at mark text at) + 1))
+
+-- the line that begins at a place of a script, up to the next line feed, which the last may lack; behind a last line feed stands one more, which is empty (docs/REPLAY.md, "A script")
+abbrev pub line_from : List ℕ → ℕ → Option (List ℕ × ℕ)
+line_from script at = part_from 10 script at
+
+-- the word at a place, and where the next one begins, past the line's end where there is none; none past the line's end (docs/REPLAY.md, "A script")
 abbrev pub word_from : List ℕ → ℕ → Option (List ℕ × ℕ)
-word_from line at = choose (ltb (length line) at) None (Some (word_at line at, at + length (word_at line at) + 1))
+word_from line at = part_from 32 line at
 
 -- what a reading answers that gives a value and the place behind it (house)
 abbrev pub answered : {A : Type 0} → Option (A × ℕ) → Option A

@@ -1,18 +1,18 @@
 -- The slot that a store takes, and what it writes there.
-use Prim.Native.Nat.{ℕ, ◌+◌, ◌≤◌, ◌<◌}
+use Prim.Native.Nat.{ℕ, ◌+◌, ◌-◌, ◌≤◌, ◌<◌, min}
 use native.Mathlib.Omega.{arith}
 use mathlib.Core.Path.{◌≡◌, refl, sym, ap, ◌∙◌}
 use mathlib.Core.Logic.{◌⊎◌, inl, inr}
 use mathlib.Core.Bool.{Bool, true, false, false≢true}
 use mathlib.Core.List.{List, [], ◌∷◌}
-use lib.ListN.{length, get_or}
+use lib.ListN.{length, get_or, set}
 use lib.Seq.{paste}
 use borrow.Author.Tests.{eqb-false, ltb-true, ltb-false}
 use Rattle.ground.specs.Choose.{choose}
 use Rattle.ground.specs.Bytes.{fitting}
 use Rattle.ground.proofs.Choices.{choose_no}
 use Rattle.ground.proofs.Firsts.{FirstCase}
-use Rattle.ground.proofs.Laid.{paste_before}
+use Rattle.ground.proofs.Laid.{paste_none, paste_step, paste_before}
 use Rattle.shared.specs.Image.{image_long, slots, start_of, holds, is_free, slot_of, free_slot, has}
 use Rattle.refusal.specs.Refusal.{gives}
 use Rattle.refusal.proofs.Rules.{Passed, gave}
@@ -66,6 +66,14 @@ module _ (n : List ℕ) (sector : ℕ) where
       go b e l (inl (none, z)) = none j from (omega (arith, taken_within n sector, below))
       go true e l (inr f) = f.before j from l
       go false e l (inr f) = absurd (let z : ⊥ = omega (arith, f.from, ltb-false 0 (slot_of n sector) e) in z)
+
+-- two bytes set one behind the other are pasted
+pub head_laid : (u : List ℕ) (r s a b : ℕ) → r ≡ s → s + 2 ≤ length u → set (set u r a) (r + 1) b ≡ paste u s (a ∷ b ∷ []) (fitting 2 s (length u))
+unfolding fitting
+head_laid u r s a b e h =
+    let head = a ∷ b ∷ [] in
+    let first : set u s a ≡ paste u s head 1 = ap (λ (k : ℕ). set u k a) (let z : s ≡ s + 0 = omega arith in z) ∙ paste_step u u s head 0 (paste_none u s head) (omega arith) (omega arith) in
+    ap (λ (k : ℕ). set (set u k a) (k + 1) b) e ∙ paste_step u (set u s a) s head 1 first (omega arith) (omega arith) ∙ ap (paste u s head) (let z : 1 + 1 ≡ min 2 (length u - s) = omega arith in z)
 
 -- the record and the head before it, laid one after the other, are the slot written
 pub slot_laid : (n u v : List ℕ) (slot sector : ℕ) (bytes : List ℕ) → length n ≡ image_long → 0 < slot → slot ≤ 40 → length bytes ≤ 200 → u ≡ paste n (start_of slot + 2) bytes (fitting (length bytes) (start_of slot + 2) (length n)) → v ≡ paste u (start_of slot) (sector ∷ length bytes ∷ []) (fitting 2 (start_of slot) (length u)) → v ≡ put_in n slot (slot_bytes sector bytes)

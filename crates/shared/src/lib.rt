@@ -186,9 +186,10 @@ pub fn store(network: &mut [u8], sector: u8, bytes: &[u8]) -> Result<usize, Refu
     }
     let slot = taken(image, sector).ok_or(Refusal::NoSlot)?;
     let start = start_of(slot);
-    // the head last: a slot that was free stays so until its record stands
+    // the head last: a slot that was free stays so until its record stands; byte by byte, since of two laid at once the compiler makes a call of `memcpy`
     ground::lay(network, start + 2, bytes);
-    ground::lay(network, start, &[sector, n as u8]);
+    network[start] = sector;
+    network[start + 1] = n as u8;
     Ok(slot)
 }
 

@@ -8,7 +8,7 @@ pub returns-in_default-clause-value : goal.returns-in_default-clause-value
 returns-in_default-clause-value c = no_field c.args.line.now c.args.at c.args.most c.in_default.ensures.value
 
 pub returns-in_default-clause-next : goal.returns-in_default-clause-next
-returns-in_default-clause-next c within = let past = past_end c.args.line.now c.args.at c.in_default.ensures.value in omega arith
+returns-in_default-clause-next c within = let past = past_end 32 c.args.line.now c.args.at c.in_default.ensures.value in omega arith
 
 pub returns-in-Some-number-clause-value : goal.returns-in-Some-number-clause-value
 returns-in-Some-number-clause-value c = let args = c.args in let word = c.in-Some in

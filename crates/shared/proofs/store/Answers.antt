@@ -8,7 +8,7 @@ use Rattle.refusal.specs.declared.Refusal.TheVariants.{NoSlot}
 use Rattle.shared.specs.Store.{taken, storing, stored}
 use Rattle.shared.proofs.Slots.{length_within, some_slot, no_slot_at}
 use Rattle.refusal.proofs.Numbers.{exit}
-use Rattle.shared.proofs.Laying.{taken_within, slot_laid}
+use Rattle.shared.proofs.Laying.{taken_within, head_laid, slot_laid}
 use Rattle.ground.proofs.Choices.{not_yes, not_no}
 use Rattle.shared.proofs.store.Goals as goal
 
@@ -36,5 +36,6 @@ returns c =
     let image = c.in_ok-image.ensures in
     let small = length_within (length args.bytes.now) (sym c.is_length.ensures ∙ c.if-not-is_length.false) in
     let slot = some_slot _ _ (sym c.in_ok-slot.ensures.ok_part ∙ (rw image.0 at c.taken.ensures.number)) in
+    let within = rw slot.0 at (taken_within args.network.now args.sector) in
     rw (eq-eqb _ _ image.1, sym c.is_length.ensures, not_no _ c.if-not-is_length.false, slot.0, ne_eqb c.in_ok-slot.slot 0 (omega (arith, slot.1)))
-    (refl, slot_laid args.network.now _ _ c.in_ok-slot.slot args.sector args.bytes.now image.1 slot.1 (rw slot.0 at (taken_within args.network.now args.sector)) small.1 (rw c.start_of-start.ensures at c.lay.ensures) (rw c.start_of-start.ensures at c.lay-2.ensures))
+    (refl, slot_laid args.network.now _ _ c.in_ok-slot.slot args.sector args.bytes.now image.1 slot.1 within small.1 (rw c.start_of-start.ensures at c.lay.ensures) (head_laid _ c.start_of-start.result _ args.sector (length args.bytes.now) c.start_of-start.ensures (omega (arith, image.1, within, slot.1, c.lay.auto.out))))
